@@ -1,0 +1,5 @@
+pub mod Replies
+pub mod States
+pub mod IsState
+pub mod Calls
+pub mod Computes

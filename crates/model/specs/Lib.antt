@@ -1,0 +1,12 @@
+pub mod Value
+pub mod Statement
+pub mod Reading
+pub mod Legal
+pub mod Writing
+pub mod Matching
+pub mod Execution
+pub mod Run
+pub mod Step
+pub mod Valid
+pub mod Sound
+pub mod Computes
