@@ -5,8 +5,7 @@ use Rattle.model.specs.Computes.{computes as computes-model}
 use Rattle.layout.specs.Replies.{replyValue, replyBytes, repliesBytes}
 use Rattle.layout.specs.States.{headerBytes, accessBytes, spaceBytes, tupleBytes, waitingBytes, area, encode, byteAt, spaceRead, valueRead, tupleRead, waitingRead, entries, decode}
 use Rattle.layout.specs.IsState.{isState}
-use Rattle.layout.specs.Calls.{freshCall, numberOf, inTurn, refusalAt, refusal, stepBytes, laidOver, turnedBack, taken, takeCall}
 
 unfoldable pub computes : Unit {0}
-unfolding flatMap computes-basis computes-model replyValue replyBytes repliesBytes headerBytes accessBytes spaceBytes tupleBytes waitingBytes area encode byteAt spaceRead valueRead tupleRead waitingRead entries decode isState freshCall numberOf inTurn refusalAt refusal stepBytes laidOver turnedBack taken takeCall
+unfolding flatMap computes-basis computes-model replyValue replyBytes repliesBytes headerBytes accessBytes spaceBytes tupleBytes waitingBytes area encode byteAt spaceRead valueRead tupleRead waitingRead entries decode isState
 computes = tt

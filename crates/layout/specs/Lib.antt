@@ -1,5 +1,7 @@
 pub mod Replies
 pub mod States
 pub mod IsState
-pub mod Calls
+pub mod StateLaws
+pub mod StateSound
+pub mod ReplyLaws
 pub mod Computes

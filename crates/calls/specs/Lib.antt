@@ -1,0 +1,6 @@
+pub mod Calls
+pub mod TwoReplicas
+pub mod CallLaws
+pub mod ReturnLaws
+pub mod Theorem
+pub mod Computes

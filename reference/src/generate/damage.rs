@@ -1,0 +1,345 @@
+//! Damage to bodies, records and states.
+
+use super::rng::Rng;
+use super::statements;
+use crate::layout::{encode, SPACES_AT, SPACE_BYTES, STATE_BYTES, TUPLES_AT, TUPLE_BYTES};
+use crate::layout::{WAITING_AT, WAITING_BYTES};
+use crate::run::{Mark, Run, Tuple};
+use crate::statement::{self, Branch, Field, Operation, Statement};
+use crate::statement::{COPY, IN, INP, MOVE, OUT, RD, RDP, TRUE};
+use crate::value::{metres, name, whole, Value, METRES, NAME, WHOLE};
+
+/// Writes some other value to one byte.
+fn change(rng: &mut Rng, bytes: &mut [u8], at: usize) {
+    let old = bytes[at];
+    let new = match rng.below(5) {
+        0 => old.wrapping_add(1),
+        1 => old.wrapping_sub(1),
+        2 => old ^ 1 << rng.below(8),
+        3 => 0,
+        _ => rng.next() as u8,
+    };
+    bytes[at] = if new == old { old ^ 1 } else { new };
+}
+
+/// A body cut, made longer, with one byte changed, or with one rule broken.
+pub fn body(rng: &mut Rng, mark: Mark, body: Vec<u8>) -> (Vec<u8>, &'static str) {
+    let mut bytes = body;
+    match rng.below(6) {
+        0 => {
+            bytes.truncate(rng.below(bytes.len()));
+            (bytes, "body cut")
+        }
+        1 => {
+            let more = if rng.percent(10) { 300 } else { 1 + rng.below(3) };
+            bytes.extend((0..more).map(|_| rng.next() as u8));
+            (bytes, "body longer")
+        }
+        2 if mark != Mark::Ag => {
+            bytes[0] = 16 + rng.below(240) as u8;
+            (bytes, "host over 15")
+        }
+        3..=5 if mark == Mark::Ag => breach(rng, bytes),
+        _ => {
+            let at = rng.below(bytes.len());
+            change(rng, &mut bytes, at);
+            (bytes, "body changed")
+        }
+    }
+}
+
+/// Breaks one rule of "The stream" in the last branch of a statement.
+fn breach(rng: &mut Rng, bytes: Vec<u8>) -> (Vec<u8>, &'static str) {
+    let Some(mut statement) = statement::read(&bytes) else {
+        return (bytes, "body over 250");
+    };
+    if rng.percent(25) {
+        let note = count_breach(rng, &mut statement);
+        return (statement::write(&statement), note);
+    }
+    let Some(branch) = statement.branches.last_mut() else {
+        return (bytes, "good");
+    };
+    let (fields, body, note) = if rng.percent(45) { guard_breach(rng) } else { body_breach(rng) };
+    branch.guard = Operation { code: RDP, spaces: vec![0], fields };
+    branch.body = body;
+    (statement::write(&statement), note)
+}
+
+/// A host or a count off its range, all else legal.
+fn count_breach(rng: &mut Rng, statement: &mut Statement) -> &'static str {
+    let guard = Operation { code: TRUE, spaces: vec![], fields: vec![] };
+    let copy = Operation { code: COPY, spaces: vec![0, 0], fields: vec![] };
+    match rng.below(5) {
+        0 => {
+            statement.host = rng.pick(&[16, 17, 128, 255]);
+            "statement host over 15"
+        }
+        1 => {
+            statement.branches = vec![Branch { guard, body: vec![copy; 9] }];
+            "nine operations"
+        }
+        2 => {
+            statement.branches = vec![Branch { guard, body: vec![] }; 5];
+            "five branches"
+        }
+        3 => {
+            statement.branches.clear();
+            "no branch"
+        }
+        _ => {
+            let out = Operation { code: OUT, spaces: vec![0], fields: vec![Field::Given(whole(1))] };
+            statement.branches = vec![Branch { guard: out, body: vec![] }];
+            "out as guard"
+        }
+    }
+}
+
+type Breach = (Vec<Field>, Vec<Operation>, &'static str);
+
+fn bind(kind: u8, variable: u8) -> Field {
+    Field::Bind { kind, variable }
+}
+
+/// Fields of a guard that break a rule.
+fn guard_breach(rng: &mut Rng) -> Breach {
+    let bits = rng.pick(&[0x8000_0000, 0x7F80_0000, 0x7FC0_0000, 0xFF80_0000]);
+    let (fields, note) = match rng.below(8) {
+        0 => (vec![Field::Given(metres(bits))], "metres not legal"),
+        1 => (vec![Field::Given(Value { kind: NAME, bytes: [0, 1, 0, 0] })], "name over 65535"),
+        2 => (vec![bind(WHOLE, 3), Field::Use { variable: 3 }], "used where bound"),
+        3 => (vec![bind(WHOLE, 3), bind(WHOLE, 3)], "bound twice"),
+        4 => (vec![bind(WHOLE, 16)], "variable over 15"),
+        5 if rng.percent(50) => (vec![bind(3, 1)], "kind over 2"),
+        5 => (vec![Field::Any { kind: 3 }], "kind over 2"),
+        6 => (vec![Field::Any { kind: WHOLE }; 7], "seven fields"),
+        _ => (vec![], "no field"),
+    };
+    (fields, Vec::new(), note)
+}
+
+/// A body operation that breaks a rule, after a guard that binds variable 3.
+fn body_breach(rng: &mut Rng) -> Breach {
+    let any = Field::Any { kind: WHOLE };
+    let sum = Field::Plus { variable: 3, value: whole(1) };
+    let other = Field::Plus { variable: 3, value: metres(0) };
+    let names = Field::Minus { variable: 3, value: name(1) };
+    let wrong = Field::Plus { variable: 3, value: metres(0x8000_0000) };
+    let kind = match rng.below(8) {
+        0 => NAME,
+        1 => METRES,
+        _ => WHOLE,
+    };
+    let (code, fields, note) = match (kind, rng.below(12)) {
+        (NAME, _) => (OUT, vec![names], "sum of names"),
+        (METRES, _) => (OUT, vec![wrong], "operand not legal"),
+        (_, 0 | 1) => (OUT, vec![other], "sum of other kind"),
+        (_, 2) => (OUT, vec![any], "any in out"),
+        (_, 3) => (OUT, vec![bind(WHOLE, 4)], "bind in out"),
+        (_, 4) => (OUT, vec![], "out without field"),
+        (_, 5) => (OUT, vec![Field::Use { variable: 4 }], "used unbound"),
+        (_, 6) => (INP, vec![any], "guard code in body"),
+        (_, 7) => (TRUE, vec![], "guard code in body"),
+        (_, 8) => (RD, vec![bind(WHOLE, 3)], "bound twice"),
+        (_, 9) => (RD, vec![sum], "sum in rd"),
+        (_, 10) => (MOVE, vec![bind(WHOLE, 4)], "bind in move"),
+        _ => (COPY, vec![any; 7], "seven fields"),
+    };
+    let spaces = if matches!(code, MOVE | COPY) { vec![0, 0] } else { vec![0] };
+    (vec![bind(kind, 3)], vec![Operation { code, spaces, fields }], note)
+}
+
+/// A record with another mark, size or position.
+pub fn record(rng: &mut Rng, record: Vec<u8>, last: u32) -> (Vec<u8>, &'static str) {
+    let mut bytes = record;
+    match rng.below(7) {
+        0 => {
+            let unknown = rng.pick(&[b"RP", b"ag", b"GA", b"\0\0", b"TS", b"AM", b"RG"]);
+            bytes[..2].copy_from_slice(unknown);
+            (bytes, "unknown mark")
+        }
+        1 => {
+            bytes.truncate(rng.below(bytes.len()));
+            (bytes, "record cut")
+        }
+        2 => {
+            bytes.push(rng.next() as u8);
+            (bytes, "record longer")
+        }
+        3 | 4 => {
+            let any = rng.below(last as usize + 1) as u32;
+            let passed = rng.pick(&[0, last, last.saturating_sub(1), any]);
+            bytes[4..8].copy_from_slice(&passed.to_be_bytes());
+            (bytes, "position passed")
+        }
+        _ => {
+            let ahead = rng.pick(&[last.saturating_add(2), last.saturating_add(257), u32::MAX]);
+            bytes[4..8].copy_from_slice(&ahead.to_be_bytes());
+            (bytes, "position ahead")
+        }
+    }
+}
+
+/// A damaged state: of another length, with bytes changed, or with its lists broken.
+pub fn state(rng: &mut Rng, good: &Run) -> (Vec<u8>, &'static str) {
+    let mut bytes = encode(good);
+    match rng.below(16) {
+        0 => {
+            let length = rng.pick(&[0, 1, 64, STATE_BYTES - 1, STATE_BYTES + 1]);
+            bytes.resize(length, 0);
+            (bytes, "length")
+        }
+        1..=3 => changed(rng, bytes, (0, 15), 64, "header"),
+        4 | 5 => changed(rng, bytes, (SPACES_AT, good.spaces.len() * SPACE_BYTES), TUPLES_AT, "spaces"),
+        6 | 7 => changed(rng, bytes, (TUPLES_AT, good.tuples.len() * TUPLE_BYTES), WAITING_AT, "tuples"),
+        8 | 9 => {
+            let used = (WAITING_AT, good.waiting.len() * WAITING_BYTES);
+            changed(rng, bytes, used, STATE_BYTES, "waiting")
+        }
+        _ => lists(rng, good).unwrap_or_else(|| changed(rng, bytes, (0, 15), 64, "header")),
+    }
+}
+
+/// Changes a byte of a section, mostly in the part in use.
+fn changed(
+    rng: &mut Rng,
+    mut bytes: Vec<u8>,
+    (start, used): (usize, usize),
+    end: usize,
+    note: &'static str,
+) -> (Vec<u8>, &'static str) {
+    let length = if used > 0 && rng.percent(80) { used } else { end - start };
+    let at = start + rng.below(length);
+    change(rng, &mut bytes, at);
+    (bytes, note)
+}
+
+/// Breaks one condition of "The state buffer"; None where the run has nothing to break.
+fn lists(rng: &mut Rng, good: &Run) -> Option<(Vec<u8>, &'static str)> {
+    let mut run = good.clone();
+    let note = match rng.below(16) {
+        0..=4 => header_lists(rng, &mut run),
+        5..=7 => space_lists(rng, &mut run),
+        _ => waiting_lists(rng, &mut run),
+    }?;
+    Some((encode(&run), note))
+}
+
+fn header_lists(rng: &mut Rng, run: &mut Run) -> Option<&'static str> {
+    match rng.below(5) {
+        0 => {
+            run.monitors = 9 + rng.below(247) as u8;
+            Some("monitors over 8")
+        }
+        1 => {
+            run.next = 257 + rng.below(1000) as u16;
+            Some("next number over 256")
+        }
+        2 => {
+            run.next = run.spaces.last()?.number.into();
+            Some("space not below next")
+        }
+        3 => {
+            run.tuples.first_mut()?.space = (1..=255).find(|number| run.spaces.iter().all(|s| s.number != *number))?;
+            Some("tuple in closed space")
+        }
+        _ => {
+            let values = vec![whole(0); if rng.percent(50) { 7 } else { 0 }];
+            let fits = values.len() < 7 || run.tuples.len() < 511;
+            run.tuples.pop()?;
+            run.tuples.push(Tuple { space: 0, values });
+            fits.then_some("field count")
+        }
+    }
+}
+
+fn space_lists(rng: &mut Rng, run: &mut Run) -> Option<&'static str> {
+    let last = run.spaces.len() - 1;
+    match rng.below(5) {
+        0 if last > 0 => {
+            run.spaces.swap(last - 1, last);
+            Some("spaces out of order")
+        }
+        1 if last > 0 => {
+            run.spaces[last].number = run.spaces[last - 1].number;
+            Some("space twice")
+        }
+        2 => {
+            run.spaces[0].private = true;
+            Some("space 0 private")
+        }
+        3 => {
+            run.spaces.remove(0);
+            Some("space 0 closed")
+        }
+        _ => {
+            run.spaces.iter_mut().rfind(|space| !space.private)?.owner = 5;
+            Some("shared with owner")
+        }
+    }
+}
+
+fn waiting_lists(rng: &mut Rng, run: &mut Run) -> Option<&'static str> {
+    let count = run.waiting.len();
+    if count == 0 {
+        return None;
+    }
+    let at = rng.below(count);
+    let next = (at + 1) % count;
+    let host = usize::from(run.waiting[at].statement.host);
+    match rng.below(11) {
+        0 => run.waiting[at].position = 0,
+        1 => run.waiting[count - 1].position = run.last.checked_add(1)?,
+        2 if count > 1 => run.waiting[at].position = run.waiting[next].position,
+        3 if count > 1 => run.waiting.swap(at, next),
+        4 if count > 1 => run.waiting[at].statement.process = run.waiting[next].statement.process,
+        5 => run.up[host] = false,
+        6 => return held(rng, run, at),
+        7 => {
+            for branch in &mut run.waiting[at].statement.branches {
+                branch.guard.code = if branch.guard.code == IN { INP } else { RDP };
+            }
+            return Some("no in or rd guard");
+        }
+        8 | 9 => {
+            let process = run.waiting[at].statement.process;
+            let other = run.spaces.iter().find(|space| space.private && space.owner != process)?.number;
+            run.waiting[at].statement.branches[0].guard.spaces[0] = other;
+            return Some("waits in another's space");
+        }
+        _ => {
+            let closed = (1..=255).find(|number| run.space(*number).is_none())?;
+            run.waiting[at].statement.branches[0].guard.spaces[0] = closed;
+            return Some("waits in closed space");
+        }
+    }
+    Some("waiting entry")
+}
+
+/// A guard of a waiting statement holds: true, or a tuple that it finds.
+fn held(rng: &mut Rng, run: &mut Run, at: usize) -> Option<&'static str> {
+    let branches = &mut run.waiting[at].statement.branches;
+    let branch = rng.below(branches.len());
+    if branches.len() > 1 && rng.percent(60) {
+        branches[branch].guard = Operation { code: TRUE, spaces: vec![], fields: vec![] };
+        branches[branch].body.clear();
+        let other = (branch + 1) % branches.len();
+        branches[other].guard.code = if rng.percent(50) { IN } else { RD };
+        return Some("guard true");
+    }
+    let guard = &branches[branch].guard;
+    let mut values = Vec::new();
+    for field in &guard.fields {
+        values.push(match field {
+            Field::Given(value) => *value,
+            Field::Bind { kind, .. } | Field::Any { kind } => statements::value(rng, (*kind).min(METRES)),
+            _ => return None,
+        });
+    }
+    let tuple = Tuple { space: guard.spaces[0], values };
+    if run.tuples.len() == 512 {
+        run.tuples.pop();
+    }
+    run.tuples.push(tuple);
+    Some("guard holds")
+}

@@ -1,0 +1,246 @@
+//! A seeded generator of streams: calls that reach every outcome.
+
+pub mod coverage;
+pub mod damage;
+pub mod rng;
+pub mod start;
+pub mod statements;
+
+use crate::call::{fresh, take};
+use crate::layout::{encode, read_state, REPLY_BYTES, STATE_BYTES};
+use crate::run::{Mark, Run, MARKS};
+use crate::statement;
+use rng::Rng;
+use statements::Maker;
+
+/// What a stream dwells on.
+#[derive(Clone, Copy, PartialEq, Eq, Debug)]
+pub enum Profile {
+    Ordinary,
+    Full,
+    Waiting,
+    Spaces,
+    Monitors,
+    Arithmetic,
+    Damage,
+}
+
+pub const PROFILES: [Profile; 7] = [
+    Profile::Ordinary,
+    Profile::Full,
+    Profile::Waiting,
+    Profile::Spaces,
+    Profile::Monitors,
+    Profile::Arithmetic,
+    Profile::Damage,
+];
+
+impl Profile {
+    pub fn name(self) -> &'static str {
+        match self {
+            Profile::Ordinary => "ordinary",
+            Profile::Full => "full",
+            Profile::Waiting => "waiting",
+            Profile::Spaces => "spaces",
+            Profile::Monitors => "monitors",
+            Profile::Arithmetic => "arithmetic",
+            Profile::Damage => "damage",
+        }
+    }
+}
+
+/// One call made, with all bytes before and after it.
+pub struct Step {
+    /// The state where it is not the one that the call before left.
+    pub given: Option<Vec<u8>>,
+    pub before: Vec<u8>,
+    pub record: Vec<u8>,
+    pub lent: Vec<u8>,
+    pub returned: u64,
+    pub reply: Vec<u8>,
+    pub after: Vec<u8>,
+    /// What was done to the record and to the state.
+    pub record_note: &'static str,
+    pub state_note: &'static str,
+}
+
+impl Step {
+    pub fn is_taken(&self) -> bool {
+        !(1..=5).contains(&self.returned)
+    }
+
+    /// The reply bytes written; none where the call was turned back.
+    pub fn replies(&self) -> &[u8] {
+        let count = if self.is_taken() { self.returned as usize } else { 0 };
+        &self.reply[..count]
+    }
+}
+
+pub struct Stream {
+    rng: Rng,
+    profile: Profile,
+    /// What the last call left.
+    state: Vec<u8>,
+    /// The last state that was one, which the stream goes on from.
+    good: Run,
+}
+
+impl Stream {
+    pub fn new(seed: u64, number: u64) -> Stream {
+        let mut rng = Rng::new(seed.wrapping_mul(1_000_003).wrapping_add(number));
+        rng.next();
+        let profile = PROFILES[(number % PROFILES.len() as u64) as usize];
+        let mut state = vec![0; STATE_BYTES];
+        fresh(&mut state);
+        let good = if rng.percent(60) { start::built(&mut rng, profile) } else { Run::fresh() };
+        Stream { rng, profile, state, good }
+    }
+
+    pub fn profile(&self) -> Profile {
+        self.profile
+    }
+
+    /// Makes the next call.
+    pub fn step(&mut self) -> Step {
+        if self.good.last == u32::MAX && self.rng.percent(70) {
+            self.good = start::built(&mut self.rng, self.profile);
+        }
+        let (record, record_note) = self.record();
+        let good = encode(&self.good);
+        let often = if self.profile == Profile::Damage { 20 } else { 3 };
+        let (before, state_note) = if self.rng.percent(often) {
+            damage::state(&mut self.rng, &self.good)
+        } else {
+            (good, "good")
+        };
+        let given = (before != self.state).then(|| before.clone());
+        let lent = self.reply_buffer();
+        let (mut after, mut reply) = (before.clone(), lent.clone());
+        let returned = take(&mut after, &record, &mut reply);
+        if let Some(run) = read_state(&after) {
+            self.good = run;
+        }
+        self.state.clone_from(&after);
+        Step { given, before, record, lent, returned, reply, after, record_note, state_note }
+    }
+
+    /// A reply buffer of some length, with any bytes.
+    fn reply_buffer(&mut self) -> Vec<u8> {
+        let length = match self.rng.below(100) {
+            0 => 0,
+            1 => self.rng.below(REPLY_BYTES),
+            2 => REPLY_BYTES - 1,
+            3..=12 => REPLY_BYTES + 1 + self.rng.below(500),
+            _ => REPLY_BYTES,
+        };
+        let mut bytes = Vec::new();
+        while bytes.len() < length {
+            bytes.extend(self.rng.next().to_be_bytes());
+        }
+        bytes.truncate(length);
+        bytes
+    }
+
+    /// The next record: mostly the next position and a legal body.
+    fn record(&mut self) -> (Vec<u8>, &'static str) {
+        let mark = self.mark();
+        let (mut body, mut note) = (self.body(mark), "good");
+        let often = if self.profile == Profile::Damage { 25 } else { 3 };
+        if self.rng.percent(often) {
+            (body, note) = damage::body(&mut self.rng, mark, body);
+        }
+        let bytes = MARKS.iter().find(|(other, _)| *other == mark).map_or(*b"AG", |found| *found.1);
+        let mut record = join(bytes, self.good.last.wrapping_add(1), &body);
+        if self.rng.percent(6) {
+            (record, note) = damage::record(&mut self.rng, record, self.good.last);
+        }
+        (record, note)
+    }
+
+    fn mark(&mut self) -> Mark {
+        let hosts = self.good.hosts_up();
+        if hosts == 0 && self.rng.percent(90) {
+            return Mark::Rv;
+        }
+        let rv = if hosts < 3 { 12 } else { 2 };
+        let (cr, mo, ms, ds) = match self.profile {
+            Profile::Spaces => (1, 1, 14, 12),
+            Profile::Monitors => (14, 8, 1, 1),
+            Profile::Full => (5, 2, 2, 1),
+            Profile::Waiting => (2, 3, 4, 3),
+            _ => (3, 2, 4, 3),
+        };
+        let ag = 100 - rv - cr - mo - ms - ds;
+        let marks = [Mark::Rv, Mark::Cr, Mark::Mo, Mark::Ms, Mark::Ds, Mark::Ag];
+        marks[self.rng.weighted(&[rv, cr, mo, ms, ds, ag])]
+    }
+
+    /// A legal body for the mark.
+    fn body(&mut self, mark: Mark) -> Vec<u8> {
+        let host = self.host(mark);
+        let process = self.process();
+        let [high, low] = process.to_be_bytes();
+        match mark {
+            Mark::Rv | Mark::Cr => vec![host],
+            Mark::Mo => vec![host, high, low],
+            Mark::Ms => match self.rng.below(3) {
+                0 => vec![host, high, low],
+                kind => vec![host, high, low, kind as u8 - 1],
+            },
+            Mark::Ds => vec![host, high, low, self.space_to_close(process)],
+            Mark::Ag => {
+                let mut maker = Maker::new(&mut self.rng, &self.good, self.profile, host, process);
+                statement::write(&maker.statement())
+            }
+        }
+    }
+
+    /// An up host, or for RV a down one; now and then any.
+    fn host(&mut self, mark: Mark) -> u8 {
+        let wanted = mark != Mark::Rv;
+        let fit: Vec<u8> = (0..16).filter(|host| self.good.up[usize::from(*host)] == wanted).collect();
+        let crowd: Vec<u8> = self.good.waiting.iter().map(|w| w.statement.host).collect();
+        if fit.is_empty() || self.rng.percent(4) {
+            self.rng.below(16) as u8
+        } else if mark == Mark::Cr && !crowd.is_empty() && self.rng.percent(60) {
+            self.rng.pick(&crowd)
+        } else {
+            self.rng.pick(&fit)
+        }
+    }
+
+    /// A process that does not wait; now and then one that does.
+    fn process(&mut self) -> u16 {
+        let few = [0, 1, 2, 3, 4, 5, 6, 7, 65_535];
+        let free: Vec<u16> = few.into_iter().filter(|p| !self.good.process_waits(*p)).collect();
+        let busy: Vec<u16> = self.good.waiting.iter().map(|w| w.statement.process).collect();
+        if !busy.is_empty() && self.rng.percent(6) {
+            self.rng.pick(&busy)
+        } else if free.is_empty() || self.rng.percent(5) {
+            start::free_process(&mut self.rng, &self.good)
+        } else {
+            self.rng.pick(&free)
+        }
+    }
+
+    fn space_to_close(&mut self, process: u16) -> u8 {
+        let open: Vec<u8> = self.good.spaces.iter().map(|space| space.number).collect();
+        let own: Vec<u8> =
+            open.iter().copied().filter(|n| *n > 0 && self.good.is_open_to(*n, process)).collect();
+        match self.rng.below(10) {
+            0 => self.rng.below(256) as u8,
+            1 | 2 => self.rng.pick(&open),
+            _ if own.is_empty() => self.rng.pick(&open),
+            _ => self.rng.pick(&own),
+        }
+    }
+}
+
+/// Mark, length, position, body.
+pub fn join(mark: [u8; 2], position: u32, body: &[u8]) -> Vec<u8> {
+    let mut record = mark.to_vec();
+    record.extend((body.len() as u16).to_be_bytes());
+    record.extend(position.to_be_bytes());
+    record.extend(body);
+    record
+}

@@ -1,0 +1,111 @@
+//! Starting states built for a profile: nearly full, many waiting, and so on.
+
+use super::rng::Rng;
+use super::statements::{signal, wide, Intent, Maker};
+use super::Profile;
+use crate::run::{Mark, Run, Space, Tuple, MOST_TUPLES};
+use crate::statement;
+use crate::value::{metres, name, whole};
+
+/// A process that does not wait.
+pub fn free_process(rng: &mut Rng, run: &Run) -> u16 {
+    loop {
+        let process = 100 + rng.below(60) as u16;
+        if !run.process_waits(process) {
+            return process;
+        }
+    }
+}
+
+/// A state for the profile that no record led to.
+pub fn built(rng: &mut Rng, profile: Profile) -> Run {
+    let mut run = Run::fresh();
+    run.last = rng.below(1000) as u32;
+    for _ in 0..3 {
+        run.up[rng.below(16)] = true;
+    }
+    run.up[2] = true;
+    run.monitors = if profile == Profile::Monitors { 5 + rng.below(4) } else { rng.below(3) } as u8;
+    open_spaces(rng, profile, &mut run);
+    fill(rng, profile, &mut run);
+    match profile {
+        Profile::Waiting => crowd(rng, &mut run),
+        _ => {
+            for _ in 0..rng.below(8) {
+                let host = up_host(rng, &run);
+                add_waiting(rng, profile, &mut run, host);
+            }
+        }
+    }
+    if rng.percent(5) {
+        run.last = u32::MAX - rng.below(8) as u32;
+    }
+    run
+}
+
+fn up_host(rng: &mut Rng, run: &Run) -> u8 {
+    let hosts: Vec<u8> = (0..16).filter(|host| run.up[usize::from(*host)]).collect();
+    rng.pick(&hosts)
+}
+
+fn open_spaces(rng: &mut Rng, profile: Profile, run: &mut Run) {
+    let (count, mut number) = match profile {
+        Profile::Spaces => (27 + rng.below(5), 200 + rng.below(25) as u16),
+        _ => (rng.below(4), 1 + rng.below(9) as u16),
+    };
+    for _ in 0..count {
+        if number > 255 {
+            break;
+        }
+        let private = rng.percent(40);
+        let owner = if private { rng.below(8) as u16 } else { 0 };
+        run.spaces.push(Space { number: number as u8, private, owner });
+        number += 1;
+    }
+    let used_up = profile == Profile::Spaces && rng.percent(30);
+    run.next = if used_up { 256 - rng.below(3) as u16 } else { number };
+}
+
+fn fill(rng: &mut Rng, profile: Profile, run: &mut Run) {
+    let full = profile == Profile::Full || profile == Profile::Monitors && rng.percent(25);
+    let count = if full { MOST_TUPLES - rng.below(8) } else { rng.below(9) };
+    let spaces: Vec<u8> = run.spaces.iter().map(|space| space.number).collect();
+    for i in 0..count {
+        let mut values = vec![whole(i as i32), name(7), metres(0x3F00_0000)];
+        values.rotate_left(rng.below(3));
+        values.truncate(1 + rng.below(3));
+        let space = if rng.percent(70) { 0 } else { rng.pick(&spaces) };
+        run.tuples.push(Tuple { space, values });
+    }
+}
+
+/// Steps a statement that most likely waits; positions need not follow on.
+fn add_waiting(rng: &mut Rng, profile: Profile, run: &mut Run, host: u8) {
+    let process = free_process(rng, run);
+    let before = run.clone();
+    let statement = Maker::new(rng, &before, profile, host, process).statement_for(Intent::Wait);
+    let position = run.last + 1 + rng.below(3) as u32;
+    run.step(position, Mark::Ag, &statement::write(&statement));
+}
+
+/// Up to 32 waiting: all alike, all wide, or any.
+fn crowd(rng: &mut Rng, run: &mut Run) {
+    let count = if rng.percent(20) { 32 } else { rng.below(33) };
+    let style = rng.below(4);
+    if style < 3 {
+        run.tuples.clear();
+    }
+    for _ in 0..count {
+        let host = up_host(rng, run);
+        let process = free_process(rng, run);
+        let statement = match style {
+            0 | 1 => signal(host, process),
+            2 => wide(host, process, false),
+            _ => {
+                add_waiting(rng, Profile::Waiting, run, host);
+                continue;
+            }
+        };
+        run.step(run.last + 1, Mark::Ag, &statement::write(&statement));
+    }
+}

@@ -1,0 +1,10 @@
+//! A reference implementation of the replicated tuple space of document 01.
+//! It works on plain lists; bytes are read to lists and written back.
+
+pub mod call;
+pub mod generate;
+pub mod layout;
+pub mod run;
+pub mod statement;
+pub mod value;
+pub mod writer;
