@@ -3,4 +3,6 @@ pub mod TwoReplicas
 pub mod CallLaws
 pub mod ReturnLaws
 pub mod Theorem
+pub mod NotEmpty
+pub mod WrongCalls
 pub mod Computes

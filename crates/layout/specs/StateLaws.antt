@@ -63,15 +63,15 @@ space-back a h o = go (a .access) o
     go shared o = λ i. record { number = number-bigEndian spaceWidth (a .number) h i; access = shared }
     go (private owner) o = λ i. record { number = number-bigEndian spaceWidth (a .number) h i; access = private (number-bigEndian processWidth owner o i) }
 
-value-back : (v : Value) → v .bits < positions → valueRead (valueBytes v) ≡ v
+pub value-back : (v : Value) → v .bits < positions → valueRead (valueBytes v) ≡ v
 unfolding valueRead valueBytes bigEndian numberAt byteAt
 value-back v h = λ i. record { kind = v .kind; bits = number-bigEndian bitsWidth (v .bits) h i }
 
-value-wide : Wide valueSize valueBytes
+pub value-wide : Wide valueSize valueBytes
 unfolding valueBytes
 value-wide v = ap suc (bigEndian-length bitsWidth (v .bits))
 
-tuple-back : (t : Tuple) → t .space < spaceNumbers → T (legalTuple t) → tupleRead (pad tupleSize (tupleBytes t)) ≡ t
+pub tuple-back : (t : Tuple) → t .space < spaceNumbers → T (legalTuple t) → tupleRead (pad tupleSize (tupleBytes t)) ≡ t
 unfolding tupleRead pad tupleBytes bigEndian numberAt byteAt
 tuple-back t h k =
     let written : List ℕ = flatMap valueBytes (t .values) in

@@ -29,4 +29,12 @@ pub mod RunLaws
 pub mod StepLaws
 pub mod RecordLaws
 pub mod CheckLaws
+pub mod ReplyLaws
+pub mod BodyLaws
+pub mod HostWords
+pub mod HostLaws
+pub mod RowLaws
+pub mod LegalWords
+pub mod LegalFields
+pub mod LegalLaws
 pub mod Computes

@@ -1,0 +1,5 @@
+pub mod Section
+pub mod Rows
+pub mod SectionLaws
+pub mod Hits
+pub mod HitsLaws
