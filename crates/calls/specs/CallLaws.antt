@@ -43,9 +43,9 @@ record-of x r t e = go (markOf (take markWidth x)) e
         subst (IsRecord x) q (record { position = numberAt-lt positionAt positionWidth x t; body = bytes-drop bodyAt x t })
     found m false e = absurd (Option·none-ne-some r e)
 
-    go : (o : Option Mark) → maybe o none (λ m. cond (leb bodyAt (length x) && eqb (length x) (bodyAt + numberAt lengthAt lengthWidth x)) (some (record { mark = m; position = numberAt positionAt positionWidth x; body = drop bodyAt x })) none) ≡ some r → IsRecord x r
+    go : (o : Option Mark) → maybe o none (λ m. cond (eqb (length x) (bodyAt + numberAt lengthAt lengthWidth x)) (some (record { mark = m; position = numberAt positionAt positionWidth x; body = drop bodyAt x })) none) ≡ some r → IsRecord x r
     go none e = absurd (Option·none-ne-some r e)
-    go (some m) e = found m (leb bodyAt (length x) && eqb (length x) (bodyAt + numberAt lengthAt lengthWidth x)) e
+    go (some m) e = found m (eqb (length x) (bodyAt + numberAt lengthAt lengthWidth x)) e
 
 -- bytes that have a number are a record of that number
 pub record Numbered (x : Bytes) (n : ℕ) : Type 0 where

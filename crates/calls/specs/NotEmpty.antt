@@ -259,7 +259,7 @@ incident-ends = (record { position = 3; bytes = (takeCall one3) .state }, refl, 
   where
     both : (c : Side) → (end (begin buffers) incident c) .condition ≡ running (record { position = 3; bytes = (takeCall one3) .state })
     both one = ended one
-    both two = ended two ∙ ap (λ (b : Bytes). running (record { position = 3; bytes = b })) (claim .equalStates two one _ _ (ended two) (ended one) refl)
+    both two = ended two ∙ ap (λ (b : Bytes). running (record { position = 3; bytes = b })) (claim .equalStates two one _ _ (claim .latest two _ (ended two)) (claim .latest one _ (ended one)) refl)
 
 -- ---- what can always befall
 

@@ -96,9 +96,14 @@ abbrev GoodNow : List Bytes → Condition → Type 0
 GoodNow xs (running h) = Good xs h
 GoodNow xs (stopped b) = Unit {0}
 
+abbrev Latest : Condition → List Held → Type 0
+Latest (running h) past = List·Memᴰ h past
+Latest (stopped b) past = Unit {0}
+
 record GoodReplica (xs : List Bytes) (k : Replica) : Type 0 where
   now : GoodNow xs (k .condition)
   past : Each (Good xs) (k .history)
+  latest : Latest (k .condition) (k .history)
 
 abbrev GoodWorld : List Bytes → World → Type 0
 GoodWorld xs w = (c : Side) → GoodReplica xs (w c)
@@ -112,11 +117,11 @@ good-replace xs w two k gw gk two = gk
 
 good-holding : (xs : List Bytes) (h : Held) (k : Replica) → Good xs h → Each (Good xs) (k .history) → GoodReplica xs (holding h k)
 unfolding holding
-good-holding xs h k g past = record { now = g; past = each-cons (Good xs) h (k .history) g past }
+good-holding xs h k g past = record { now = g; past = each-cons (Good xs) h (k .history) g past; latest = List·Memᴰ·head refl }
 
 good-stop : (xs : List Bytes) (left : Bytes) (k : Replica) → GoodReplica xs k → GoodReplica xs (stop left k)
 unfolding stop
-good-stop xs left k gk = record { now = tt; past = gk .past }
+good-stop xs left k gk = record { now = tt; past = gk .past; latest = tt }
 
 good-fresh : (xs : List Bytes) (buffer : Bytes) → (freshCall buffer) .returned ≡ 0 → Good xs (record { position = 0; bytes = (freshCall buffer) .state })
 unfolding runAt fresh
@@ -160,7 +165,7 @@ module _ (xs : List Bytes) (nc : NoClash xs) (c : Side) (h : Held) (g : Good xs 
       let replies : replyBytesOf this ≡ repliesBytes ((stepBytes (g .run) (l .input)) .replies) =
       ap (λ (a : Answer). take (a .returned) (a .reply)) e ∙ take-at (repliesBytes ((stepBytes (g .run) (l .input)) .replies)) _ _ refl in (
         subst (λ (n : ℕ). Good xs (record { position = n; bytes = (takeCall l) .state })) (sym at) good,
-        rw pass (record { taken = tk; next = next; run = g .run; reached = g .reached; replies = replies }),
+        rw pass (record { taken = tk; next = next; run = g .run; reached = g .reached; replies = replies; state = ap (λ (a : Answer). a .state) e }),
       )
 
   is-turned-back : (n : ℕ) → takeCall l ≡ turnedBack l n → refusalAt (h .position) (l .input) (l .reply) ≡ some n → Next
@@ -173,7 +178,7 @@ module _ (xs : List Bytes) (nc : NoClash xs) (c : Side) (h : Held) (g : Good xs 
       let good : Good xs (record { position = h .position; bytes = (takeCall l) .state }) = record
       { run = g .run; sound = g .sound; last = g .last; reached = g .reached; bytes = ap (λ (a : Answer). a .state) e ∙ same ∙ g .bytes } in (
         subst (λ (n : ℕ). Good xs (record { position = n; bytes = (takeCall l) .state })) (sym at) good,
-        rw fail (record { returned = r; untaken = no }),
+        rw fail (record { returned = r; untaken = no; state = ap (λ (a : Answer). a .state) e; reply = ap (λ (a : Answer). a .reply) e }),
       )
 
   called-good : Next
@@ -240,19 +245,24 @@ not-one xs k a e = go (refusalAt (k .position) (k .lent .input) (k .lent .reply)
     go none q a = unfold took in subst (λ (n : ℕ). T (eqb n 0 || ltb 5 n)) e (a .taken)
     go (some n) q a = omega (arith, refused-small (k .position) (k .lent .input) (k .lent .reply) n q, a .returned)
 
+of-run : (xs : List Bytes) (h : Held) → Good xs h → OfRun xs h
+of-run xs h g = record { run = g .run; reached = g .reached; bytes = g .bytes; quiet = quiet (g .run) (g .sound) }
+
+same-bytes : (xs : List Bytes) (h k : Held) → h .position ≡ k .position → Good xs h → Good xs k → h .bytes ≡ k .bytes
+same-bytes xs h k p g g′ = g .bytes ∙ ap encode (same-run xs (h .position) (k .position) (g .run) (g′ .run) p (g .reached) (g′ .reached)) ∙ sym (g′ .bytes)
+
 pub theorem : Demand3
 theorem buffers empty es t nc =
     let w : World = begin buffers in
     let xs : List Bytes = inputs es in
     let good = events-good xs nc w es (λ x i. i) (good-begin xs buffers empty) t in
-    let state : (c : Side) (h : Held) → (end w es c) .condition ≡ running h → Good xs h = λ c h e. subst (GoodNow xs) e ((good .0 c) .now) in
-    let taken : (k : Called) → List·Memᴰ k (calls w es) → T (took (answer k)) → Taken xs k = λ k i t. was-taken xs k (refusalAt (k .position) (k .lent .input) (k .lent .reply)) t (good .1 k i) in
+    let taken : (k : Called) → List·Memᴰ k (calls w es) → T (took (answer k)) → Taken xs k =
+    λ k i t. was-taken xs k (refusalAt (k .position) (k .lent .input) (k .lent .reply)) t (good .1 k i) in
     record {
-      states = λ c h e. let g = state c h e in record { run = g .run; reached = g .reached; bytes = g .bytes; quiet = quiet (g .run) (g .sound) };
-      equalStates = λ c d h k e e′ p.
-          let g = state c h e in
-          let g′ = state d k e′ in
-          g .bytes ∙ ap encode (same-run xs (h .position) (k .position) (g .run) (g′ .run) p (g .reached) (g′ .reached)) ∙ sym (g′ .bytes);
+      states = λ c h e. of-run xs h (subst (GoodNow xs) e ((good .0 c) .now));
+      pastStates = λ c h m. of-run xs h ((good .0 c) .past h m);
+      equalStates = λ c d h k m m′ p. same-bytes xs h k p ((good .0 c) .past h m) ((good .0 d) .past k m′);
+      latest = λ c h e. subst (λ (n : Condition). Latest n ((end w es c) .history)) e ((good .0 c) .latest);
       answers = good .1;
       never1 = λ k i. not-one xs k (good .1 k i);
       equalReplies = λ j k i i′ tj tk e. same-replies xs j k e (taken j i tj) (taken k i′ tk);

@@ -29,7 +29,7 @@ pub record Held : Type 0 where
   pub position : ℕ
   pub bytes : Bytes
 
--- "A cut falls between calls or at any point of a call or restart"
+-- "A cut falls between calls or at any point of a call or restart". Where it falls makes no difference: it leaves any bytes, and what was in flight does not count
 pub data Moment : Type 0 where
   between : Moment
   inCall : Lent → Moment
@@ -175,7 +175,7 @@ unfoldable pub runAt : List Bytes → ℕ → Option Run
 runAt xs zero = some fresh
 runAt xs (suc p) = maybe (runAt xs p) none (λ s. maybe (recordNumbered (suc p) xs) none (λ x. some ((stepBytes s x) .run)))
 
--- THE HYPOTHESIS: no number stands on two different records
+-- the one hypothesis: no number stands on two different records; bytes that fail check 3 have none
 abbrev pub NoClash : List Bytes → Type 0
 NoClash xs = (n : ℕ) (x y : Bytes) → List·Memᴰ x xs → List·Memᴰ y xs → numberOf x ≡ some n → numberOf y ≡ some n → x ≡ y
 
@@ -200,18 +200,21 @@ pub record OfRun (xs : List Bytes) (h : Held) : Type 0 where
   pub bytes : h .bytes ≡ encode run
   pub quiet : Quiet run
 
--- a call that took its record: it was the next, and the reply bytes are the run's, own and woken
+-- a call that took its record: it was the next, the state bytes and the reply bytes, own and woken, are the run's
 pub record Taken (xs : List Bytes) (k : Called) : Type 0 where
   pub taken : T (took (answer k))
   pub next : numberOf (k .lent .input) ≡ some (suc (k .position))
   pub run : Run
   pub reached : runAt xs (k .position) ≡ some run
   pub replies : replyBytesOf k ≡ repliesBytes ((stepBytes run (k .lent .input)) .replies)
+  pub state : (answer k) .state ≡ encode ((stepBytes run (k .lent .input)) .run)
 
--- a call that was turned back: it returned the number of the check that failed, and took nothing
+-- a call that was turned back: it returned the number of the check that failed, and changed no byte
 pub record TurnedBack (n : ℕ) (k : Called) : Type 0 where
   pub returned : (answer k) .returned ≡ n
   pub untaken : took (answer k) ≡ false
+  pub state : (answer k) .state ≡ k .lent .state
+  pub reply : (answer k) .reply ≡ k .lent .reply
 
 -- "An uncut call takes its record exactly when checks 2 to 5 pass against that position, else returns the number of the first that fails"
 abbrev pub Answered : List Bytes → Called → Option ℕ → Type 0
@@ -221,8 +224,12 @@ Answered xs k (some n) = TurnedBack n k
 pub record Claim (w : World) (es : List Event) : Type 0 where
   -- each running replica's state bytes are the encoding of the run at its position, in which no waiting statement has a guard that is met
   pub states : (c : Side) (h : Held) → (end w es c) .condition ≡ running h → OfRun (inputs es) h
-  -- equal positions mean equal state bytes
-  pub equalStates : (c d : Side) (h k : Held) → (end w es c) .condition ≡ running h → (end w es d) .condition ≡ running k → h .position ≡ k .position → h .bytes ≡ k .bytes
+  -- and so are those of every state that it ever held between calls
+  pub pastStates : (c : Side) (h : Held) → List·Memᴰ h ((end w es c) .history) → OfRun (inputs es) h
+  -- equal positions mean equal state bytes, on one replica or on both, at whatever times
+  pub equalStates : (c d : Side) (h k : Held) → List·Memᴰ h ((end w es c) .history) → List·Memᴰ k ((end w es d) .history) → h .position ≡ k .position → h .bytes ≡ k .bytes
+  -- a running replica's state is one of them
+  pub latest : (c : Side) (h : Held) → (end w es c) .condition ≡ running h → List·Memᴰ h ((end w es c) .history)
   -- each call is answered as the checks against its replica's position say
   pub answers : (k : Called) → List·Memᴰ k (calls w es) → Answered (inputs es) k (refusalAt (k .position) (k .lent .input) (k .lent .reply))
   -- "1 never comes back in the list"
