@@ -2,6 +2,7 @@ pub mod Calls
 pub mod TwoReplicas
 pub mod CallLaws
 pub mod ReturnLaws
+pub mod BufferLaws
 pub mod Theorem
 pub mod NotEmpty
 pub mod WrongCalls

@@ -1,6 +1,6 @@
 -- What the claim over two replicas shuts out, though the run stays right: the first three programs of "Four lines on contracts", each as a definition of the call, with a list on which a part of the claim is false of it. Assumes nothing.
 use mathlib.Core.Path.{_≡_, refl, sym, ap, subst, _∙_}
-use Prim.Native.Nat.{ℕ}
+use Prim.Native.Nat.{ℕ, suc}
 use native.Mathlib.Omega.{arith}
 use mathlib.Core.Bool.{true, cond}
 use mathlib.Core.Option.{Option, none, some, Option·some-injective}
@@ -61,12 +61,14 @@ pub callsFrom : (Lent → Answer) → Held → List Bytes → List Called
 callsFrom does h [] = []
 callsFrom does h (x ∷ xs) = record { side = one; position = h .position; lent = lend h x } ∷ callsFrom does (heldAfter does h (lend h x)) xs
 
--- `Taken` of the claim: the call took its record, and its reply bytes are the run's
+-- `Taken` of the claim, for another call: it took its record, which was the next, and the state bytes and the reply bytes are the run's
 pub record TakenBy (does : Lent → Answer) (xs : List Bytes) (k : Called) : Type 0 where
   pub taken : T (took (does (k .lent)))
+  pub next : numberOf (k .lent .input) ≡ some (suc (k .position))
   pub run : Run
   pub reached : runAt xs (k .position) ≡ some run
   pub replies : take ((does (k .lent)) .returned) ((does (k .lent)) .reply) ≡ repliesBytes ((stepBytes run (k .lent .input)) .replies)
+  pub state : (does (k .lent)) .state ≡ encode ((stepBytes run (k .lent .input)) .run)
 
 -- each call that the checks 2 to 5 let pass is so answered
 abbrev pub Answers : (Lent → Answer) → List Bytes → Type 0
@@ -115,9 +117,11 @@ part-of-claim starts e xs claim k i pass =
     let t : Taken (inputs (events empty xs)) k = subst (Answered (inputs (events empty xs)) k) pass (claim .answers k listed) in
     record {
       taken = t .taken;
+      next = t .next;
       run = t .run;
       reached = subst (λ (ys : List Bytes). runAt ys (k .position) ≡ some (t .run)) (events-inputs empty xs) (t .reached);
       replies = t .replies;
+      state = t .state;
     }
 
 -- so it holds of the call

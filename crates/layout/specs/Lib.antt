@@ -4,4 +4,5 @@ pub mod IsState
 pub mod StateLaws
 pub mod StateSound
 pub mod ReplyLaws
+pub mod PlaceLaws
 pub mod Computes

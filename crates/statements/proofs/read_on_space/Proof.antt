@@ -1,0 +1,49 @@
+-- `statements::read_on_space` meets its contract. Assumes nothing.
+use mathlib.Core.Path.{sym, ap, _∙_}
+use native.Mathlib.Omega.{arith}
+use denote.Ref.{now}
+use borrow.Author.Needs.{needs}
+use Rattle.statements.specs.Flat.{fewFields, operationOf}
+use Rattle.statements.specs.At.{passed, passed-none}
+use Rattle.statements.specs.Operations.{space-short, space-there}
+use Rattle.statements.proofs.read_on_space.Statement.{statement}
+use Rattle.statements.proofs.read_on_space.Tie as tie
+
+sub-if1 : tie.Need-sub-if1
+sub-if1 c = search needs
+
+no-operation-read-requires : tie.Need-no-operation-read-requires
+no-operation-read-requires c κs = search needs
+
+returns : tie.Need-returns
+returns c = let s = c .before .before .before in
+    c .no-operation-read .ensures ∙ sym (passed-none fewFields _ (space-short (λ x. operationOf (s .args .code) x 0) (now (s .args .b)) (s .args .at) (omega (arith, s .pre .1, c .before .if1 .taken))))
+
+add-read-counted : tie.Need-add-read-counted
+add-read-counted c = search needs
+
+shared-slice-read-read-counted : tie.Need-shared-slice-read-read-counted
+shared-slice-read-read-counted c = search needs
+
+cast-read-counted : tie.Need-cast-read-counted
+cast-read-counted c = omega (arith, c .shared-slice-known2 .given (c .before .before .before .args .at))
+
+read-counted-requires : tie.Need-read-counted-requires
+read-counted-requires c κs = search needs
+
+returns-2 : tie.Need-returns-2
+returns-2 c = let s = c .before .before .before .before in
+    c .read-counted .ensures ∙ sym (ap (passed fewFields) (space-there (λ x. operationOf (s .args .code) x 0) (now (s .args .b)) (s .args .at) (omega (arith, s .pre .1, c .before .before .if1 .left))))
+
+pub read-on-space-spec : {M : Type 1} → statement M
+read-on-space-spec =
+    tie.close
+    (tie.spec
+    sub-if1
+    no-operation-read-requires
+    returns
+    add-read-counted
+    shared-slice-read-read-counted
+    cast-read-counted
+    read-counted-requires
+    returns-2)

@@ -1,0 +1,65 @@
+-- What the flat structs are: a field by its form, an operation by its code, with its first `count` fields. Assumes nothing.
+use Prim.Native.Nat.{ℕ, zero, suc, _+_}
+use mathlib.Core.Bool.{Bool, true, false}
+use mathlib.Core.Option.{Option, none, some}
+use mathlib.Core.List.{List, [], _∷_, map}
+use lib.ListN.{length, take, getD}
+use lib.Dec.{leb}
+use Rattle.basis.specs.Numbers.{numberAt}
+use Rattle.basis.specs.Sizes.{bitsWidth, mostFields}
+use Rattle.model.specs.Value.{value}
+use Rattle.model.specs.Statement as model
+use Rattle.model.specs.Statement.{actual, formal, reference, sum, difference, anonymous, always, lookup, deposit, transfer}
+use Rattle.model.specs.Legal.{fieldsOf}
+use Rattle.model.specs.Reading.{operation}
+use Rattle.statements.specs.At.{readAt, passed, found}
+use Rattle.statements.specs.declared.Field.{Field}
+use Rattle.statements.specs.declared.FieldRead.{FieldRead}
+use Rattle.statements.specs.declared.FieldsRead.{FieldsRead}
+use Rattle.statements.specs.declared.Operation.{Operation}
+use Rattle.statements.specs.declared.OperationRead.{OperationRead}
+
+-- a field of a form, of its parts
+unfoldable pub fieldOf : (form kind variable bits : ℕ) → model.Field
+fieldOf form k x n = getD (actual (value k n) ∷ formal k x ∷ reference x ∷ sum x (value k n) ∷ difference x (value k n) ∷ []) form (anonymous k)
+
+unfoldable pub fieldIs : Field → model.Field
+fieldIs f = fieldOf (f .form) (f .kind) (f .variable) (f .bits)
+
+unfoldable pub fieldsAre : List Field → List model.Field
+fieldsAre fs = map fieldIs fs
+
+-- an operation of a code, of its parts
+unfoldable pub operationOf : (code from to : ℕ) → List model.Field → model.Operation
+operationOf code from to fs =
+    getD
+    (always
+    ∷ lookup true true from fs
+    ∷ lookup true false from fs
+    ∷ lookup false true from fs
+    ∷ lookup false false from fs
+    ∷ deposit from fs
+    ∷ transfer true from to fs
+    ∷ [])
+    code (transfer false from to fs)
+
+unfoldable pub operationIs : Operation → model.Operation
+operationIs o = operationOf (o .code) (o .from) (o .to) (fieldsAre (take (o .count) (o .fields)))
+
+-- what a function read, and the position after it; end 0: there is none
+unfoldable pub fieldRead : FieldRead → Option (model.Field × ℕ)
+fieldRead r = found (r .end) (fieldIs (r .field))
+
+unfoldable pub fieldsRead : ℕ → FieldsRead → Option (List model.Field × ℕ)
+fieldsRead n r = found (r .end) (fieldsAre (take n (r .fields)))
+
+unfoldable pub readIs : OperationRead → Option (model.Operation × ℕ)
+readIs r = found (r .end) (operationIs (r .operation))
+
+-- at most as many fields as a tuple has values
+unfoldable pub fewFields : model.Operation → Bool
+fewFields o = leb (length (fieldsOf o)) mostFields
+
+-- the operation at a position, and the position after it
+unfoldable pub operationAt : List ℕ → ℕ → Option (model.Operation × ℕ)
+operationAt b at = passed fewFields (readAt operation b at)

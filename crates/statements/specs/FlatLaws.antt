@@ -1,0 +1,51 @@
+-- The parts read at a position are those of the field there. Assumes nothing.
+use mathlib.Core.Path.{_≡_, refl, sym, ap, _∙_}
+use Prim.Native.Nat.{ℕ, zero, suc, _+_, _-_, _≤_, _<_}
+use native.Mathlib.Omega.{arith}
+use mathlib.Core.Bool.{Bool, true, false}
+use mathlib.Core.Option.{Option, none, some}
+use mathlib.Core.List.{List, [], _∷_, _++_}
+use lib.ListN.{length, getD, List·getD-eq-default}
+use Rattle.basis.specs.Numbers.{numberAt}
+use Rattle.basis.specs.Sizes.{bitsWidth}
+use Rattle.model.specs.Value.{value}
+use Rattle.model.specs.Statement.{Field, actual, formal, reference, sum, difference, anonymous}
+use Rattle.statements.specs.Fields.{fieldAfter, fieldParts}
+use Rattle.statements.specs.Flat.{fieldOf}
+
+pub parts-actual : (b : List ℕ) (at n : ℕ) → getD b at 0 ≡ 0 → n ≡ numberAt (at + 1 + 1) bitsWidth b → fieldOf (getD b at 0) (getD b (at + 1) 0) 0 n ≡ fieldParts b at
+unfolding fieldOf fieldParts fieldAfter
+parts-actual b at n e h = rw (e, h)
+
+pub parts-formal : (b : List ℕ) (at : ℕ) → getD b at 0 ≡ 1 → fieldOf (getD b at 0) (getD b (at + 1) 0) (getD b (at + 1 + 1) 0) 0 ≡ fieldParts b at
+unfolding fieldOf fieldParts fieldAfter
+parts-formal b at e = rw e
+
+pub parts-reference : (b : List ℕ) (at : ℕ) → getD b at 0 ≡ 2 → fieldOf (getD b at 0) 0 (getD b (at + 1) 0) 0 ≡ fieldParts b at
+unfolding fieldOf fieldParts fieldAfter
+parts-reference b at e = rw e
+
+pub parts-sum : (b : List ℕ) (at n : ℕ) → 3 ≤ getD b at 0 → getD b at 0 < 5 → n ≡ numberAt (at + 1 + 2) bitsWidth b
+    → fieldOf (getD b at 0) (getD b (at + 1 + 1) 0) (getD b (at + 1) 0) n ≡ fieldParts b at
+unfolding fieldOf fieldParts fieldAfter
+parts-sum b at n l h e = rw e (go (getD b at 0) l h)
+  where
+    go : (form : ℕ) → 3 ≤ form → form < 5 → fieldOf form (getD b (at + 1 + 1) 0) (getD b (at + 1) 0) (numberAt (at + 1 + 2) bitsWidth b) ≡ fieldAfter form b (at + 1)
+    go zero l h = absurd (omega arith)
+    go (suc zero) l h = absurd (omega arith)
+    go (suc (suc zero)) l h = absurd (omega arith)
+    go (suc (suc (suc zero))) l h = refl
+    go (suc (suc (suc (suc zero)))) l h = refl
+    go (suc (suc (suc (suc (suc m))))) l h = absurd (omega arith)
+
+pub parts-anonymous : (b : List ℕ) (at : ℕ) → 5 ≤ getD b at 0 → fieldOf (getD b at 0) (getD b (at + 1) 0) 0 0 ≡ fieldParts b at
+unfolding fieldOf fieldParts fieldAfter
+parts-anonymous b at h = go (getD b at 0) h
+  where
+    go : (form : ℕ) → 5 ≤ form → fieldOf form (getD b (at + 1) 0) 0 0 ≡ fieldAfter form b (at + 1)
+    go zero h = absurd (omega arith)
+    go (suc zero) h = absurd (omega arith)
+    go (suc (suc zero)) h = absurd (omega arith)
+    go (suc (suc (suc zero))) h = absurd (omega arith)
+    go (suc (suc (suc (suc zero)))) h = absurd (omega arith)
+    go (suc (suc (suc (suc (suc m))))) h = refl

@@ -1,0 +1,237 @@
+-- An operation at a position: its code, its spaces, its field count, and its fields. Assumes nothing.
+use mathlib.Core.Path.{_≡_, refl, sym, ap, _∙_}
+use Prim.Native.Nat.{ℕ, zero, suc, _+_, _-_, _≤_, _<_}
+use native.Mathlib.Omega.{arith}
+use native.Mathlib.Numerals.{add-one}
+use mathlib.Core.Bool.{Bool, true, false, cond}
+use mathlib.Core.Logic.{_⊎_, inl, inr}
+use mathlib.Core.Option.{Option, none, some, Option·some-injective, Option·none-ne-some}
+use mathlib.Core.List.{List, [], _∷_, _++_}
+use lib.ListN.{length, take, drop, getD, length-drop, List·getD-eq-default}
+use lib.Seq.{take-suc, drop-cons}
+use lib.Dec.{leb}
+use borrow.Author.Tests.{le-leb, lt-leb}
+use Rattle.basis.specs.Choice.{maybe, provided}
+use Rattle.basis.specs.Numbers.{numberAt, number}
+use Rattle.basis.specs.NumberLaws.{number-one}
+use Rattle.basis.specs.Sizes.{spaceWidth, mostFields}
+use Rattle.model.specs.Statement as model
+use Rattle.model.specs.Statement.{always, lookup, deposit, transfer}
+use Rattle.model.specs.Legal.{fieldsOf}
+use Rattle.model.specs.Reading.{Reader, _>>=_, give, refuse, byte, natural, several, counted, chosenBy, field, onSpace, onSpaces, operation}
+use Rattle.model.specs.ReadBack.{several-length}
+use Rattle.statements.specs.At.{which, Suffix, suffix-give, suffix-refuse, suffix-byte, suffix-then, suffix-last, suffix-counted, suffix-several, placed, readAt, passed, found, found-some, found-none, ReadAt, readAt-some, readAt-none, some-readAt, none-readAt}
+use Rattle.statements.specs.Fixed.{Fixed, fixed-byte, fixed-natural}
+use Rattle.statements.specs.Several.{suffix-field}
+use Rattle.statements.specs.Flat.{fieldsAre, fieldsRead, operationOf, fewFields, operationAt}
+use Rattle.statements.specs.declared.FieldsRead.{FieldsRead}
+
+-- the byte at a position is the number of one byte there
+pub one-byte : (b : List ℕ) (at : ℕ) → at < length b → numberAt at spaceWidth b ≡ getD b at 0
+unfolding numberAt
+one-byte b at h = rw (drop-cons b at 0 h) (number-one (getD b at 0))
+
+-- ---- what is left is a last part
+
+suffix-natural : (w : ℕ) → Suffix (natural w)
+unfolding natural provided
+suffix-natural w s rest a e = go (leb w (length s)) e
+  where
+    go : (t : Bool) → cond {A = Option (ℕ × List ℕ)} t (some (number (take w s), drop w s)) none ≡ some (a, rest) → (k : ℕ) × (rest ≡ drop k s)
+    go true e = (w, ap (λ (r : ℕ × List ℕ). r .1) (sym (Option·some-injective (number (take w s), drop w s) (a, rest) e)))
+    go false e = absurd (Option·none-ne-some (a, rest) e)
+
+suffix-onSpace : (made : ℕ → List model.Field → model.Operation) → Suffix (onSpace made)
+unfolding onSpace
+suffix-onSpace made = suffix-then (natural spaceWidth) _ (suffix-natural spaceWidth) (λ s. suffix-last (counted field) (made s) (suffix-counted field suffix-field))
+
+suffix-onSpaces : (made : ℕ → ℕ → List model.Field → model.Operation) → Suffix (onSpaces made)
+unfolding onSpaces
+suffix-onSpaces made =
+    suffix-then (natural spaceWidth) _ (suffix-natural spaceWidth)
+    (λ from. suffix-then (natural spaceWidth) _ (suffix-natural spaceWidth) (λ to. suffix-last (counted field) (made from to) (suffix-counted field suffix-field)))
+
+abbrev rows : List (Reader model.Operation)
+rows =
+    give always
+    ∷ onSpace (lookup true true)
+    ∷ onSpace (lookup true false)
+    ∷ onSpace (lookup false true)
+    ∷ onSpace (lookup false false)
+    ∷ onSpace deposit
+    ∷ onSpaces (transfer true)
+    ∷ onSpaces (transfer false)
+    ∷ []
+
+suffix-row : (code : ℕ) → Suffix (getD rows code refuse)
+suffix-row zero = suffix-give always
+suffix-row (suc zero) = suffix-onSpace (lookup true true)
+suffix-row (suc (suc zero)) = suffix-onSpace (lookup true false)
+suffix-row (suc (suc (suc zero))) = suffix-onSpace (lookup false true)
+suffix-row (suc (suc (suc (suc zero)))) = suffix-onSpace (lookup false false)
+suffix-row (suc (suc (suc (suc (suc zero))))) = suffix-onSpace deposit
+suffix-row (suc (suc (suc (suc (suc (suc zero)))))) = suffix-onSpaces (transfer true)
+suffix-row (suc (suc (suc (suc (suc (suc (suc zero))))))) = suffix-onSpaces (transfer false)
+suffix-row (suc (suc (suc (suc (suc (suc (suc (suc n)))))))) = suffix-refuse
+
+pub suffix-operation : Suffix operation
+unfolding operation chosenBy
+suffix-operation = suffix-then byte (λ b. getD rows b refuse) suffix-byte suffix-row
+
+-- ---- the fields of an operation, after their count
+
+-- the field count and the fields, made into an operation
+abbrev pub fieldsMade : (List model.Field → model.Operation) → Reader model.Operation
+fieldsMade made = counted field >>= λ fs. give (made fs)
+
+abbrev madeOf : (List model.Field → model.Operation) → Option (List model.Field × List ℕ) → Option (model.Operation × List ℕ)
+madeOf made none = none
+madeOf made (some r) = some (made (r .0), r .1)
+
+fields-from : (made : List model.Field → model.Operation) (b : List ℕ) (at : ℕ) → at < length b
+    → fieldsMade made (drop at b) ≡ madeOf made (several field (getD b at 0) (drop (at + 1) b))
+unfolding counted _>>=_ give
+fields-from made b at h = rw (fixed-byte .enough b at (omega arith)) (go (several field (getD b at 0) (drop (at + 1) b)))
+  where
+    go : (o : Option (List model.Field × List ℕ)) → maybe o none (λ r. some (made (r .0), r .1)) ≡ madeOf made o
+    go none = refl
+    go (some r) = refl
+
+-- an operation of a code above 0 has the fields that it is given
+pub fields-of : (code from to : ℕ) (fs : List model.Field) → 0 < code → fieldsOf (operationOf code from to fs) ≡ fs
+unfolding operationOf fieldsOf
+fields-of zero from to fs h = absurd (omega arith)
+fields-of (suc zero) from to fs h = refl
+fields-of (suc (suc zero)) from to fs h = refl
+fields-of (suc (suc (suc zero))) from to fs h = refl
+fields-of (suc (suc (suc (suc zero)))) from to fs h = refl
+fields-of (suc (suc (suc (suc (suc zero))))) from to fs h = refl
+fields-of (suc (suc (suc (suc (suc (suc zero)))))) from to fs h = refl
+fields-of (suc (suc (suc (suc (suc (suc (suc n))))))) from to fs h = refl
+
+-- more fields than a tuple has values
+pub fields-many : (code from to : ℕ) (b : List ℕ) (at : ℕ) → 0 < code → at < length b → mostFields < getD b at 0
+    → passed fewFields (readAt (fieldsMade (operationOf code from to)) b at) ≡ none
+unfolding passed readAt fewFields provided
+fields-many code from to b at c h m = rw (fields-from (operationOf code from to) b at h) (go (several field (getD b at 0) (drop (at + 1) b)) refl)
+  where
+    go : (o : Option (List model.Field × List ℕ)) → several field (getD b at 0) (drop (at + 1) b) ≡ o → passed fewFields (placed b (madeOf (operationOf code from to) o)) ≡ none
+    go none q = refl
+    go (some r) q =
+        let n : length (r .0) ≡ getD b at 0 = several-length field (getD b at 0) (drop (at + 1) b) (r .1) (r .0) q in
+        rw (fields-of code from to (r .0) c, n, lt-leb (getD b at 0) mostFields m)
+
+-- at most so many: they are what is read after the count
+pub fields-few : (code from to : ℕ) (b : List ℕ) (at : ℕ) (count : ℕ) (r : FieldsRead) → 0 < code → at < length b → count ≡ getD b at 0 → count ≤ mostFields
+    → fieldsRead count r ≡ readAt (several field count) b (at + 1)
+    → found (r .end) (operationOf code from to (fieldsAre (take count (r .fields)))) ≡ passed fewFields (readAt (fieldsMade (operationOf code from to)) b at)
+unfolding passed readAt fewFields provided fieldsRead found
+fields-few code from to b at count r c h e m k = rw (fields-from (operationOf code from to) b at h, ← e) (go (r .end) (several field count (drop (at + 1) b)) refl k)
+  where
+    fs : List model.Field
+    fs = fieldsAre (take count (r .fields))
+
+    go : (end : ℕ) (o : Option (List model.Field × List ℕ)) → several field count (drop (at + 1) b) ≡ o → found end fs ≡ placed b o
+        → found end (operationOf code from to fs) ≡ passed fewFields (placed b (madeOf (operationOf code from to) o))
+    go zero none q k = refl
+    go zero (some x) q k = absurd (Option·none-ne-some (x .0, length b - length (x .1)) k)
+    go (suc end) none q k = absurd (Option·none-ne-some (fs, suc end) (sym k))
+    go (suc end) (some x) q k =
+        let same = Option·some-injective (fs, suc end) (x .0, length b - length (x .1)) k in
+        let f : fs ≡ x .0 = ap (λ (z : List model.Field × ℕ). z .0) same in
+        let n : suc end ≡ length b - length (x .1) = ap (λ (z : List model.Field × ℕ). z .1) same in
+        let l : length (x .0) ≡ count = several-length field count (drop (at + 1) b) (x .1) (x .0) q in
+        rw (fields-of code from to (x .0) c, l, le-leb count mostFields m) (λ i. some (operationOf code from to (f i), n i))
+
+-- ---- the spaces of an operation
+
+-- one space, then the fields
+pub space-there : (made : ℕ → List model.Field → model.Operation) (b : List ℕ) (at : ℕ) → at + 2 ≤ length b
+    → readAt (onSpace made) b at ≡ readAt (fieldsMade (made (getD b at 0))) b (at + 1)
+unfolding onSpace _>>=_ readAt
+space-there made b at h = rw (fixed-natural spaceWidth (omega arith) .enough b at (omega arith), one-byte b at (omega arith))
+
+pub space-short : (made : ℕ → List model.Field → model.Operation) (b : List ℕ) (at : ℕ) → length b < at + 2 → readAt (onSpace made) b at ≡ none
+unfolding onSpace _>>=_ counted readAt
+space-short made b at h = go (which (at + 1) (length b))
+  where
+    go : (at + 1 ≤ length b) ⊎ (length b < at + 1) → readAt (onSpace made) b at ≡ none
+    go (inl l) = rw (fixed-natural spaceWidth (omega arith) .enough b at l, fixed-byte .short b (at + 1) (omega arith))
+    go (inr l) = rw (fixed-natural spaceWidth (omega arith) .short b at l)
+
+-- two spaces, then the fields
+abbrev target : (ℕ → ℕ → List model.Field → model.Operation) → ℕ → Reader model.Operation
+target made from = natural spaceWidth >>= λ to. fieldsMade (made from to)
+
+pub spaces-there : (made : ℕ → ℕ → List model.Field → model.Operation) (b : List ℕ) (at : ℕ) → at + 3 ≤ length b
+    → readAt (onSpaces made) b at ≡ readAt (fieldsMade (made (getD b at 0) (getD b (at + 1) 0))) b (at + 2)
+unfolding onSpaces _>>=_ readAt
+spaces-there made b at h =
+    let e : at + 1 + 1 ≡ at + 2 = omega arith in
+    rw (fixed-natural spaceWidth (omega arith) .enough b at (omega arith), fixed-natural spaceWidth (omega arith) .enough b (at + 1) (omega arith), one-byte b at (omega arith), one-byte b (at + 1) (omega arith), e)
+
+pub spaces-short : (made : ℕ → ℕ → List model.Field → model.Operation) (b : List ℕ) (at : ℕ) → length b < at + 3 → readAt (onSpaces made) b at ≡ none
+unfolding onSpaces _>>=_ readAt
+spaces-short made b at h = go (which (at + 1) (length b))
+  where
+    go : (at + 1 ≤ length b) ⊎ (length b < at + 1) → readAt (onSpaces made) b at ≡ none
+    go (inl l) = rw (fixed-natural spaceWidth (omega arith) .enough b at l) (unfold onSpace _>>=_ readAt in space-short (made (numberAt at spaceWidth b)) b (at + 1) (omega arith))
+    go (inr l) = rw (fixed-natural spaceWidth (omega arith) .short b at l)
+
+-- ---- the reader of an operation, at a position
+
+row-space : (code : ℕ) → 0 < code → code < 6 → getD rows code refuse ≡ onSpace (λ s. operationOf code s 0)
+unfolding operationOf
+row-space zero l m = absurd (omega arith)
+row-space (suc zero) l m = refl
+row-space (suc (suc zero)) l m = refl
+row-space (suc (suc (suc zero))) l m = refl
+row-space (suc (suc (suc (suc zero)))) l m = refl
+row-space (suc (suc (suc (suc (suc zero))))) l m = refl
+row-space (suc (suc (suc (suc (suc (suc n)))))) l m = absurd (omega arith)
+
+row-spaces : (code : ℕ) → 6 ≤ code → code < 8 → getD rows code refuse ≡ onSpaces (operationOf code)
+unfolding operationOf
+row-spaces zero l m = absurd (omega arith)
+row-spaces (suc zero) l m = absurd (omega arith)
+row-spaces (suc (suc zero)) l m = absurd (omega arith)
+row-spaces (suc (suc (suc zero))) l m = absurd (omega arith)
+row-spaces (suc (suc (suc (suc zero)))) l m = absurd (omega arith)
+row-spaces (suc (suc (suc (suc (suc zero))))) l m = absurd (omega arith)
+row-spaces (suc (suc (suc (suc (suc (suc zero)))))) l m = refl
+row-spaces (suc (suc (suc (suc (suc (suc (suc zero))))))) l m = refl
+row-spaces (suc (suc (suc (suc (suc (suc (suc (suc n)))))))) l m = absurd (omega arith)
+
+operation-from : (b : List ℕ) (at : ℕ) → at < length b → readAt operation b at ≡ readAt (getD rows (getD b at 0) refuse) b (at + 1)
+unfolding operation chosenBy _>>=_ readAt
+operation-from b at h = rw (fixed-byte .enough b at (omega arith))
+
+pub operation-past : (b : List ℕ) (at : ℕ) → length b ≤ at → operationAt b at ≡ none
+unfolding operation chosenBy _>>=_ readAt operationAt passed
+operation-past b at h = rw (fixed-byte .short b at (omega arith))
+
+-- code 0 has no more bytes
+pub operation-always : (b : List ℕ) (at : ℕ) → at < length b → getD b at 0 ≡ 0 → operationAt b at ≡ some (always, at + 1)
+unfolding operationAt passed fewFields fieldsOf provided give
+operation-always b at h e =
+    let k : readAt operation b at ≡ some (always, at + 1) = operation-from b at h ∙ rw e (some-readAt (give always) b (at + 1) always (at + 1) refl (omega arith)) in
+    rw k
+
+-- codes 1 to 5
+pub operation-space : (b : List ℕ) (at : ℕ) → at < length b → 0 < getD b at 0 → getD b at 0 < 6
+    → operationAt b at ≡ passed fewFields (readAt (onSpace (λ s. operationOf (getD b at 0) s 0)) b (at + 1))
+unfolding operationAt
+operation-space b at h l m = ap (passed fewFields) (operation-from b at h ∙ ap (λ (p : Reader model.Operation). readAt p b (at + 1)) (row-space (getD b at 0) l m))
+
+-- codes 6 and 7
+pub operation-spaces : (b : List ℕ) (at : ℕ) → at < length b → 6 ≤ getD b at 0 → getD b at 0 < 8
+    → operationAt b at ≡ passed fewFields (readAt (onSpaces (operationOf (getD b at 0))) b (at + 1))
+unfolding operationAt
+operation-spaces b at h l m = ap (passed fewFields) (operation-from b at h ∙ ap (λ (p : Reader model.Operation). readAt p b (at + 1)) (row-spaces (getD b at 0) l m))
+
+-- no other code
+pub operation-none : (b : List ℕ) (at : ℕ) → at < length b → 8 ≤ getD b at 0 → operationAt b at ≡ none
+unfolding operationAt passed readAt refuse
+operation-none b at h m =
+    let k : readAt operation b at ≡ none = operation-from b at h ∙ ap (λ (p : Reader model.Operation). readAt p b (at + 1)) (List·getD-eq-default rows refuse m) in
+    rw k
