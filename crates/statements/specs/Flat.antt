@@ -1,5 +1,6 @@
 -- What the flat structs are: a field by its form, an operation by its code, with its first `count` fields. Assumes nothing.
-use Prim.Native.Nat.{ℕ, zero, suc, _+_}
+use mathlib.Core.Path.{_≡_, _∙_}
+use Prim.Native.Nat.{ℕ, zero, suc, _+_, _≤_}
 use mathlib.Core.Bool.{Bool, true, false}
 use mathlib.Core.Option.{Option, none, some}
 use mathlib.Core.List.{List, [], _∷_, map}
@@ -56,6 +57,11 @@ fieldsRead n r = found (r .end) (fieldsAre (take n (r .fields)))
 unfoldable pub readIs : OperationRead → Option (model.Operation × ℕ)
 readIs r = found (r .end) (operationIs (r .operation))
 
+-- an operation was read so, and it has at most as many fields as there is room for
+pub record Reads (r : OperationRead) (o : Option (model.Operation × ℕ)) : Type 0 where
+  pub is : readIs r ≡ o
+  pub count : r .operation .count ≤ mostFields
+
 -- at most as many fields as a tuple has values
 unfoldable pub fewFields : model.Operation → Bool
 fewFields o = leb (length (fieldsOf o)) mostFields
@@ -63,3 +69,6 @@ fewFields o = leb (length (fieldsOf o)) mostFields
 -- the operation at a position, and the position after it
 unfoldable pub operationAt : List ℕ → ℕ → Option (model.Operation × ℕ)
 operationAt b at = passed fewFields (readAt operation b at)
+
+pub reads-as : (r : OperationRead) (o same : Option (model.Operation × ℕ)) → Reads r o → o ≡ same → Reads r same
+reads-as r o same h e = record { is = h .is ∙ e; count = h .count }

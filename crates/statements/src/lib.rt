@@ -7,12 +7,11 @@ ghost use mathlib.Core.Option.{none};
 ghost use Rattle.model.specs.Statement.{always};
 ghost use Rattle.model.specs.Reading.{field, several, onSpace, onSpaces};
 ghost use Rattle.statements.specs.At.{readAt, passed};
-ghost use Rattle.statements.specs.Flat.{fieldIs, fieldRead, fieldsRead, operationOf, operationIs, readIs, fewFields, operationAt};
+ghost use Rattle.statements.specs.Flat.{fieldIs, fieldRead, fieldsRead, operationOf, operationIs, Reads, fewFields, operationAt};
 ghost use Rattle.statements.specs.Operations.{fieldsMade};
 ghost use Rattle.statements.specs.Fields.{widthOf, fieldParts, fieldEnd};
-use words::MOST_FIELDS;
-use words::size;
-use words::word4;
+
+use words::{size, word4, MOST_FIELDS};
 
 // A field: its form, and the kind, variable and four bytes of a value that the form has; parts that it lacks are 0.
 pub struct Field {
@@ -174,7 +173,7 @@ fn read_fields(b: &[u8], at: usize, count: usize) -> FieldsRead
 
 // An operation with no part: true.
 fn no_operation() -> Operation
-    ensures { λ r. ⌜ operationIs r ≡ always ⌝ }
+    ensures { λ r. ⌜ (operationIs r ≡ always) × (r .count ≡ 0) ⌝ }
 {
     let f = no_field();
     Operation {
@@ -188,7 +187,7 @@ fn no_operation() -> Operation
 
 // That there is no operation.
 fn no_operation_read() -> OperationRead
-    ensures { λ r. ⌜ readIs r ≡ none ⌝ }
+    ensures { λ r. ⌜ Reads r none ⌝ }
 {
     OperationRead {
         end: 0,
@@ -199,7 +198,7 @@ fn no_operation_read() -> OperationRead
 // An operation of a code and spaces whose field count stands at a position.
 fn read_counted(b: &[u8], at: usize, code: u8, from: u16, to: u16) -> OperationRead
     requires { ⌜ (0 < code) × (at < length (now b)) ⌝ }
-    ensures { λ r. ⌜ readIs r ≡ passed fewFields (readAt (fieldsMade (operationOf code from to)) (now (b .entry)) at) ⌝ }
+    ensures { λ r. ⌜ Reads r (passed fewFields (readAt (fieldsMade (operationOf code from to)) (now (b .entry)) at)) ⌝ }
 {
     let count = size(b[at]);
     if MOST_FIELDS < count {
@@ -222,7 +221,7 @@ fn read_counted(b: &[u8], at: usize, code: u8, from: u16, to: u16) -> OperationR
 // Codes 1 to 5, after the code: space, field count, fields.
 fn read_on_space(b: &[u8], at: usize, code: u8) -> OperationRead
     requires { ⌜ (0 < code) × (at ≤ length (now b)) ⌝ }
-    ensures { λ r. ⌜ readIs r ≡ passed fewFields (readAt (onSpace (λ s. operationOf code s 0)) (now (b .entry)) at) ⌝ }
+    ensures { λ r. ⌜ Reads r (passed fewFields (readAt (onSpace (λ s. operationOf code s 0)) (now (b .entry)) at)) ⌝ }
 {
     if b.len() - at < 2 {
         return no_operation_read();
@@ -233,7 +232,7 @@ fn read_on_space(b: &[u8], at: usize, code: u8) -> OperationRead
 // Codes 6 and 7, after the code: from, to, field count, fields.
 fn read_on_spaces(b: &[u8], at: usize, code: u8) -> OperationRead
     requires { ⌜ (0 < code) × (at ≤ length (now b)) ⌝ }
-    ensures { λ r. ⌜ readIs r ≡ passed fewFields (readAt (onSpaces (operationOf code)) (now (b .entry)) at) ⌝ }
+    ensures { λ r. ⌜ Reads r (passed fewFields (readAt (onSpaces (operationOf code)) (now (b .entry)) at)) ⌝ }
 {
     if b.len() - at < 3 {
         return no_operation_read();
@@ -243,7 +242,7 @@ fn read_on_spaces(b: &[u8], at: usize, code: u8) -> OperationRead
 
 // The operation at a position: code 0, true, has no more bytes; 1 to 5 name a space, 6 and 7 two.
 pub fn read_operation(b: &[u8], at: usize) -> OperationRead
-    ensures { λ r. ⌜ readIs r ≡ operationAt (now (b .entry)) at ⌝ }
+    ensures { λ r. ⌜ Reads r (operationAt (now (b .entry)) at) ⌝ }
 {
     if b.len() <= at {
         return no_operation_read();

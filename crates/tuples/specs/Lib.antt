@@ -3,3 +3,5 @@ pub mod Rows
 pub mod SectionLaws
 pub mod Hits
 pub mod HitsLaws
+pub mod Moves
+pub mod MoveLaws

@@ -1,13 +1,14 @@
 -- Rows as wide as each other in a section that ends in zeros: what a store, a cut and a reading by index say of them. Assumes nothing.
 use mathlib.Core.Path.{_≡_, refl, sym, ap, _∙_}
-use mathlib.Core.List.{List, [], _∷_, _++_, map, flatMap, append-assoc}
+use mathlib.Core.Bool.{Bool, true, false, cond}
+use mathlib.Core.List.{List, [], _∷_, _++_, map, flatMap, append-assoc, append-nil}
 use Prim.Native.Nat.{ℕ, zero, suc, _+_, _-_, _*_, _≤_, _<_}
 use native.Mathlib.Omega.{arith}
 use native.Mathlib.Nat.{add-zero, zero-mul}
-use lib.ListN.{length, take, drop, length-append, length-drop, length-take, replicate-append-replicate, take-append-drop}
-use lib.Seq.{take-at, drop-at, take-all, length-take-le, drop-drop, take-paste, drop-paste}
-use Rattle.basis.specs.Lists.{zeros, pieces}
-use Rattle.basis.specs.PadLaws.{zeros-length}
+use lib.ListN.{length, take, drop, getD, set, length-append, length-drop, length-take, replicate-append-replicate, take-append-drop}
+use lib.Seq.{take-at, drop-at, take-all, length-take-le, drop-drop, drop-cons, getD-take, set-at, take-set-lt, take-paste, drop-paste}
+use Rattle.basis.specs.Lists.{keep, zeros, pieces}
+use Rattle.basis.specs.PadLaws.{zeros-length, Wide}
 use Rattle.words.specs.Over.{over}
 use Rattle.words.specs.OverLaws.{over-split}
 
@@ -61,7 +62,59 @@ take-map f zero l = refl
 take-map f (suc i) [] = refl
 take-map f (suc i) (a ∷ l) = ap (λ r. f a ∷ r) (take-map f i l)
 
+-- the row at index i
+pub row-at : {A : Type 0} (w : ℕ) (write : A → List ℕ) → Wide w write → (l : List A) (rest : List ℕ) (i : ℕ) (d : A) → i < length l
+    → take w (drop (i * w) (flatMap write l ++ rest)) ≡ write (getD l i d)
+unfolding flatMap
+row-at w write wide [] rest i d h = absurd (omega arith)
+row-at w write wide (a ∷ l) rest zero d h = rw (zero-mul w, append-assoc (write a) (flatMap write l) rest) (take-at (write a) (flatMap write l ++ rest) w (wide a))
+row-at w write wide (a ∷ l) rest (suc i) d h =
+    let e : suc i * w ≡ w + i * w = omega arith in
+    rw (e, append-assoc (write a) (flatMap write l) rest, ← drop-drop (i * w) w (write a ++ (flatMap write l ++ rest)), drop-at (write a) (flatMap write l ++ rest) w (wide a))
+    (row-at w write wide l rest i d (omega arith))
+
+-- what a test keeps of one list and then another
+pub keep-append : {A : Type 0} (q : A → Bool) (l k : List A) → keep q (l ++ k) ≡ keep q l ++ keep q k
+unfolding keep
+keep-append q [] k = refl
+keep-append {A} q (a ∷ l) k = go (q a) (keep-append q l k)
+  where
+    go : (b : Bool) → keep q (l ++ k) ≡ keep q l ++ keep q k → cond b (a ∷ keep q (l ++ k)) (keep q (l ++ k)) ≡ cond b (a ∷ keep q l) (keep q l) ++ keep q k
+    go true e = ap (λ (r : List A). a ∷ r) e
+    go false e = e
+
+-- and of one element more
+pub keep-yes : {A : Type 0} (q : A → Bool) (l : List A) (a : A) → q a ≡ true → keep q (l ++ (a ∷ [])) ≡ keep q l ++ (a ∷ [])
+unfolding keep
+keep-yes q l a e = keep-append q l (a ∷ []) ∙ rw e
+
+pub keep-no : {A : Type 0} (q : A → Bool) (l : List A) (a : A) → q a ≡ false → keep q (l ++ (a ∷ [])) ≡ keep q l
+unfolding keep
+keep-no q l a e = keep-append q l (a ∷ []) ∙ rw e (append-nil (keep q l))
+
 -- ---- stores
+
+-- what stands up to the end of a store, and what stands after it
+pub over-front : (d : List ℕ) (at : ℕ) (s : List ℕ) (n : ℕ) → at + n ≤ length d → n ≤ length s → take (at + n) (over d at s n) ≡ take at d ++ take n s
+unfolding over
+over-front d at s n h k = take-paste d at s n (omega arith) k
+
+pub over-back : (d : List ℕ) (at : ℕ) (s : List ℕ) (n k : ℕ) → at + n ≤ length d → n ≤ length s → at + n ≤ k → drop k (over d at s n) ≡ drop k d
+unfolding over
+over-back d at s n k h l m =
+    let e : at + n + (k - (at + n)) ≡ k = omega arith in
+    let j : ℕ = k - (at + n) in
+    ap (λ (i : ℕ). drop i (over d at s n)) (sym e) ∙ sym (drop-drop j (at + n) (over d at s n)) ∙ ap (drop j) (drop-paste d at s n (omega arith) l) ∙ drop-drop j (at + n) d ∙ ap (λ (i : ℕ). drop i d) e
+
+-- the first byte of a store set anew
+pub over-set : (d e : List ℕ) (at : ℕ) (s : List ℕ) (n v : ℕ) → e ≡ over d at s n → at + n ≤ length d → n ≤ length s → 0 < n → set e at v ≡ over d at (set s 0 v) n
+over-set d e at s n v stored h k z =
+    let lt : length (take at d) ≡ at = length-take-le at d (omega arith) in
+    let f : take n s ≡ getD s 0 0 ∷ drop 1 (take n s) = drop-cons (take n s) 0 0 (rw (length-take-le n s k) z) ∙ ap (λ (b : ℕ). b ∷ drop 1 (take n s)) (getD-take n s 0 0 z) in
+    let g : take n (set s 0 v) ≡ v ∷ drop 1 (take n s) = take-set-lt n s 0 v z ∙ ap (λ (l : List ℕ). set l 0 v) f in
+    let a : set (take at d ++ (take n s ++ drop (at + n) d)) at v ≡ take at d ++ (v ∷ (drop 1 (take n s) ++ drop (at + n) d)) =
+    ap (λ (l : List ℕ). set (take at d ++ (l ++ drop (at + n) d)) at v) f ∙ set-at (take at d) (getD s 0 0) (drop 1 (take n s) ++ drop (at + n) d) v at lt in
+    ap (λ (l : List ℕ). set l at v) (stored ∙ over-split d at s n) ∙ a ∙ sym (over-split d at (set s 0 v) n ∙ ap (λ (l : List ℕ). take at d ++ (l ++ drop (at + n) d)) g)
 
 -- a store into the middle one of three parts
 pub over-mid : (a b c s : List ℕ) (at n : ℕ) → length a ≡ at → length b ≡ n → over (a ++ (b ++ c)) at s n ≡ a ++ (take n s ++ c)

@@ -1,5 +1,6 @@
 -- `statements::no_operation_read` meets its contract. Assumes nothing.
 use mathlib.Core.Path.{refl}
+use native.Mathlib.Omega.{arith}
 use borrow.Author.Needs.{needs}
 use Rattle.statements.specs.Flat.{readIs}
 use Rattle.statements.specs.At.{found}
@@ -11,7 +12,7 @@ no-operation-requires c κs = search needs
 
 returns : tie.Need-returns
 unfolding readIs found
-returns c = refl
+returns c = record { is = refl; count = omega (arith, c .no-operation .ensures .1) }
 
 pub no-operation-read-spec : {M : Type 1} → statement M
 no-operation-read-spec = tie.close (tie.spec no-operation-requires returns)

@@ -20,7 +20,11 @@ no-operation-read-requires c κs = search needs
 returns : tie.Need-returns
 returns c = let k = c .before .before in
     let s = k .before .before .before in
-    c .no-operation-read .ensures ∙ sym (fields-many (s .args .code) (s .args .from) (s .args .to) (now (s .args .b)) (s .args .at) (s .pre .0) (s .pre .1) (omega (arith, k .size .ensures .0, c .before .if1 .taken)))
+    let e = c .no-operation-read .ensures in
+    record {
+      is = e .is ∙ sym (fields-many (s .args .code) (s .args .from) (s .args .to) (now (s .args .b)) (s .args .at) (s .pre .0) (s .pre .1) (omega (arith, k .size .ensures .0, c .before .if1 .taken)));
+      count = e .count;
+    }
 
 add-read-fields : tie.Need-add-read-fields
 add-read-fields c = search needs
@@ -32,7 +36,10 @@ returns-2 : tie.Need-returns-2
 unfolding readIs operationIs
 returns-2 c = let k = c .before .before .before in
     let s = k .before .before .before in
-    fields-few (s .args .code) (s .args .from) (s .args .to) (now (s .args .b)) (s .args .at) (k .size .result) (c .before .read-fields .result) (s .pre .0) (s .pre .1) (k .size .ensures .0) (c .before .before .if1 .left) (c .before .read-fields .ensures)
+    record {
+      is = fields-few (s .args .code) (s .args .from) (s .args .to) (now (s .args .b)) (s .args .at) (k .size .result) (c .before .read-fields .result) (s .pre .0) (s .pre .1) (k .size .ensures .0) (c .before .before .if1 .left) (c .before .read-fields .ensures);
+      count = c .before .before .if1 .left;
+    }
 
 pub read-counted-spec : {M : Type 1} → statement M
 read-counted-spec =

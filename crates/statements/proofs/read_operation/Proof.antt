@@ -3,7 +3,7 @@ use mathlib.Core.Path.{sym, ap, _∙_}
 use native.Mathlib.Omega.{arith}
 use denote.Ref.{now}
 use borrow.Author.Needs.{needs}
-use Rattle.statements.specs.Flat.{readIs}
+use Rattle.statements.specs.Flat.{readIs, reads-as}
 use Rattle.statements.specs.At.{found, found-some}
 use Rattle.statements.specs.Operations.{operation-past, operation-always, operation-space, operation-spaces, operation-none}
 use Rattle.statements.proofs.read_operation.Statement.{statement}
@@ -14,7 +14,7 @@ no-operation-read-requires c κs = search needs
 
 returns : tie.Need-returns
 returns c = let s = c .before .before .before in
-    c .no-operation-read .ensures ∙ sym (operation-past (now (s .args .b)) (s .args .at) (c .before .if1 .taken))
+    reads-as _ _ _ (c .no-operation-read .ensures) (sym (operation-past (now (s .args .b)) (s .args .at) (c .before .if1 .taken)))
 
 shared-slice-read-code : tie.Need-shared-slice-read-code
 shared-slice-read-code c = search needs
@@ -29,7 +29,11 @@ returns-2 : tie.Need-returns-2
 unfolding readIs
 returns-2 c = let k = c .before .before .before in
     let s = k .before .before in
-    ap (found _) (c .no-operation .ensures) ∙ found-some _ _ (omega arith) ∙ sym (operation-always (now (s .args .b)) (s .args .at) (k .if1 .left) (c .before .if2 .taken))
+    let e = c .no-operation .ensures in
+    record {
+      is = ap (found _) (e .0) ∙ found-some _ _ (omega arith) ∙ sym (operation-always (now (s .args .b)) (s .args .at) (k .if1 .left) (c .before .if2 .taken));
+      count = omega (arith, e .1);
+    }
 
 add-read-on-space : tie.Need-add-read-on-space
 add-read-on-space c = search needs
@@ -40,7 +44,7 @@ read-on-space-requires c κs = search needs
 returns-3 : tie.Need-returns-3
 returns-3 c = let k = c .before .before .before .before in
     let s = k .before .before in
-    c .read-on-space .ensures ∙ sym (operation-space (now (s .args .b)) (s .args .at) (k .if1 .left) (omega (arith, c .before .before .if2 .left)) (c .before .if3 .taken))
+    reads-as _ _ _ (c .read-on-space .ensures) (sym (operation-space (now (s .args .b)) (s .args .at) (k .if1 .left) (omega (arith, c .before .before .if2 .left)) (c .before .if3 .taken)))
 
 add-read-on-spaces : tie.Need-add-read-on-spaces
 add-read-on-spaces c = search needs
@@ -51,7 +55,7 @@ read-on-spaces-requires c κs = search needs
 returns-4 : tie.Need-returns-4
 returns-4 c = let k = c .before .before .before .before .before in
     let s = k .before .before in
-    c .read-on-spaces .ensures ∙ sym (operation-spaces (now (s .args .b)) (s .args .at) (k .if1 .left) (c .before .before .if3 .left) (c .before .if4 .taken))
+    reads-as _ _ _ (c .read-on-spaces .ensures) (sym (operation-spaces (now (s .args .b)) (s .args .at) (k .if1 .left) (c .before .before .if3 .left) (c .before .if4 .taken)))
 
 no-operation-read-requires-2 : tie.Need-no-operation-read-requires-2
 no-operation-read-requires-2 c κs = search needs
@@ -59,7 +63,7 @@ no-operation-read-requires-2 c κs = search needs
 returns-5 : tie.Need-returns-5
 returns-5 c = let k = c .before .before .before .before .before in
     let s = k .before .before in
-    c .no-operation-read2 .ensures ∙ sym (operation-none (now (s .args .b)) (s .args .at) (k .if1 .left) (c .before .if4 .left))
+    reads-as _ _ _ (c .no-operation-read2 .ensures) (sym (operation-none (now (s .args .b)) (s .args .at) (k .if1 .left) (c .before .if4 .left)))
 
 pub read-operation-spec : {M : Type 1} → statement M
 read-operation-spec =

@@ -1,0 +1,190 @@
+-- The laws of a reply's parts: what the stores leave, and that the parts are the reply. Assumes nothing.
+use mathlib.Core.Path.{_≡_, refl, sym, ap, _∙_}
+use Prim.Native.Nat.{ℕ, zero, suc, _+_, _*_, _≤_, _<_, _%_}
+use native.Mathlib.Omega.{arith}
+use native.Mathlib.Numerals.{add-one}
+use mathlib.Core.Bool.{Bool, true, false, cond}
+use mathlib.Core.Option.{Option, none, some}
+use mathlib.Core.List.{List, [], _∷_, _++_, flatMap, append-assoc, append-nil}
+use lib.ListN.{length, take, drop, getD, set, length-append, length-drop, length-set}
+use lib.Seq.{take-all, take-suc, length-take-le}
+use lib.Dec.{eqb}
+use Rattle.basis.specs.Choice.{maybe, provided}
+use Rattle.basis.specs.Numbers.{bigEndian}
+use Rattle.basis.specs.NumberLaws.{bigEndian-length}
+use Rattle.basis.specs.PadLaws.{Wide, rows-length}
+use Rattle.basis.specs.Sizes.{variables}
+use Rattle.words.specs.Over.{over}
+use Rattle.words.specs.OverLaws.{over-set, over-append, over-front, over-next, over-none, drop-over-at}
+use Rattle.model.specs.Value.{Value, value}
+use Rattle.model.specs.Matching.{Bindings}
+use Rattle.model.specs.Writing.{valueBytes}
+use Rattle.model.specs.Run.{boundFrom}
+use Rattle.layout.specs.Replies.{replyMark, replyValue, replyBytes}
+use Rattle.replies.specs.Written.{headSize, valueSize, headBytes, valuesBytes, boundTo, PutValues, reply, ranValues, Wrote}
+
+-- ---- stores
+
+-- one byte right past what already stands at the front
+set-next : (d s : List ℕ) (n b : ℕ) → length s ≡ n → n < length d → set (s ++ drop n d) n b ≡ (s ++ (b ∷ [])) ++ drop (n + 1) d
+set-next d s n b e h =
+    let room : n < length (s ++ drop n d) = simp (length-append, length-drop) (omega arith) in
+    over-set (s ++ drop n d) n b room ∙ over-next d s n (b ∷ []) 1 e refl
+
+-- the seven stores of a head
+pub head-stored : (d d₁ d₂ d₃ : List ℕ) (position host process outcome branch count : ℕ) → headSize ≤ length d → host < 256
+    → d₁ ≡ over d 0 replyMark 2 → d₂ ≡ over d₁ 2 (bigEndian 4 position) 4 → d₃ ≡ over (set d₂ 6 host) 7 (bigEndian 2 process) 2
+    → set (set (set d₃ 9 outcome) 10 branch) 11 count ≡ over d 0 (headBytes position host process outcome branch count) headSize
+unfolding headBytes bigEndian
+head-stored d d₁ d₂ d₃ position host process outcome branch count h small e₁ e₂ e₃ =
+    let a : List ℕ = replyMark ++ bigEndian 4 position in
+    let b : List ℕ = a ++ (host ∷ []) in
+    let c : List ℕ = b ++ bigEndian 2 process in
+    let f₁ : d₁ ≡ replyMark ++ drop 2 d = e₁ ∙ over-front d replyMark 2 refl in
+    let f₂ : d₂ ≡ a ++ drop 6 d = e₂ ∙ ap (λ (l : List ℕ). over l 2 (bigEndian 4 position) 4) f₁ ∙ over-next d replyMark 2 (bigEndian 4 position) 4 refl refl in
+    let f₃ : set d₂ 6 host ≡ b ++ drop 7 d = ap (λ (l : List ℕ). set l 6 host) f₂ ∙ set-next d a 6 host refl (omega arith) in
+    let f₄ : d₃ ≡ c ++ drop 9 d = e₃ ∙ ap (λ (l : List ℕ). over l 7 (bigEndian 2 process) 2) f₃ ∙ over-next d b 7 (bigEndian 2 process) 2 refl refl in
+    let f₅ : set d₃ 9 outcome ≡ (c ++ (outcome ∷ [])) ++ drop 10 d = ap (λ (l : List ℕ). set l 9 outcome) f₄ ∙ set-next d c 9 outcome refl (omega arith) in
+    let f₆ : set (set d₃ 9 outcome) 10 branch ≡ (c ++ (outcome ∷ branch ∷ [])) ++ drop 11 d = ap (λ (l : List ℕ). set l 10 branch) f₅ ∙ set-next d (c ++ (outcome ∷ [])) 10 branch refl (omega arith) in
+    let f₇ : set (set (set d₃ 9 outcome) 10 branch) 11 count ≡ (c ++ (outcome ∷ branch ∷ count ∷ [])) ++ drop 12 d =
+    ap (λ (l : List ℕ). set l 11 count) f₆ ∙ set-next d (c ++ (outcome ∷ branch ∷ [])) 11 count refl (omega arith) in
+    let one : host % 256 ≡ host = omega arith in
+    f₇ ∙ sym (over-front d (headBytes position host process outcome branch count) 12 refl ∙ rw one)
+
+-- the three stores of a value
+pub value-stored : (d : List ℕ) (at x k n : ℕ) → at + valueSize ≤ length d
+    → over (set (set d at x) (at + 1) k) (at + 2) (bigEndian 4 n) 4 ≡ over d at (replyValue (x, value k n)) valueSize
+unfolding replyValue valueBytes
+value-stored d at x k n h =
+    let l : length (set d at x) ≡ length d = length-set d at x in
+    let one : set d at x ≡ over d at (x ∷ []) 1 = over-set d at x (omega arith) in
+    let two : set (set d at x) (at + 1) k ≡ over d at (x ∷ k ∷ []) 2 =
+    over-set (set d at x) (at + 1) k (omega arith) ∙ ap (λ (r : List ℕ). over r (at + 1) (k ∷ []) 1) one ∙ over-append d at (x ∷ []) 1 (k ∷ []) 1 (omega arith) refl in
+    ap (λ (r : List ℕ). over r (at + 2) (bigEndian 4 n) 4) two ∙ over-append d at (x ∷ k ∷ []) 2 (bigEndian 4 n) 4 (omega arith) refl
+
+-- ---- values
+
+value-wide : Wide valueSize replyValue
+unfolding replyValue valueBytes
+value-wide v = let e = bigEndian-length 4 (v .1 .bits) in omega arith
+
+pub values-length : (vs : List (ℕ × Value)) → length (valuesBytes vs) ≡ length vs * valueSize
+unfolding valuesBytes
+values-length vs = rows-length valueSize replyValue value-wide vs
+
+values-more : (vs : List (ℕ × Value)) (v : ℕ × Value) → valuesBytes (vs ++ (v ∷ [])) ≡ valuesBytes vs ++ replyValue v
+unfolding valuesBytes flatMap
+values-more [] v = append-nil (replyValue v)
+values-more (u ∷ vs) v = ap (λ (l : List ℕ). replyValue u ++ l) (values-more vs v) ∙ sym (append-assoc (replyValue u) (flatMap replyValue vs) (replyValue v))
+
+module _ (bs : List Bool) (ks ns : List ℕ) where
+  pub bound-yes : (x : ℕ) → getD bs x false ≡ true → boundTo (x + 1) bs ks ns ≡ boundTo x bs ks ns ++ ((x, value (getD ks x 0) (getD ns x 0)) ∷ [])
+  unfolding boundTo
+  bound-yes x e = rw (add-one x, e)
+
+  pub bound-no : (x : ℕ) → getD bs x false ≡ false → boundTo (x + 1) bs ks ns ≡ boundTo x bs ks ns
+  unfolding boundTo
+  bound-no x e = rw (add-one x, e) (append-nil (boundTo x bs ks ns))
+
+  -- ---- the loop over the variables
+
+  -- what stands after the variables below x
+  pub record Passed (x : ℕ) (d out : List ℕ) (count : ℕ) : Type 0 where
+    pub number : count ≡ length (boundTo x bs ks ns)
+    pub few : count ≤ x
+    pub bytes : out ≡ over d headSize (valuesBytes (boundTo x bs ks ns)) (count * valueSize)
+
+  pub passed-none : (d : List ℕ) → Passed 0 d d 0
+  unfolding boundTo
+  passed-none d = record { number = refl; few = omega arith; bytes = over-none d headSize (valuesBytes []) }
+
+  pub passed-yes : (x : ℕ) (d out out′ : List ℕ) (count : ℕ) → getD bs x false ≡ true → headSize + (count + 1) * valueSize ≤ length d → Passed x d out count
+      → out′ ≡ over out (headSize + count * valueSize) (replyValue (x, value (getD ks x 0) (getD ns x 0))) valueSize → Passed (x + 1) d out′ (count + 1)
+  passed-yes x d out out′ count b room p e =
+      let vs : List (ℕ × Value) = boundTo x bs ks ns in
+      let v : ℕ × Value = (x, value (getD ks x 0) (getD ns x 0)) in
+      let l : length (valuesBytes vs) ≡ count * valueSize = values-length vs ∙ ap (λ (n : ℕ). n * valueSize) (sym (p .number)) in
+      let n : (count + 1) * valueSize ≡ count * valueSize + valueSize = omega arith in
+      record {
+        number = rw (bound-yes x b) (sym (length-append vs (v ∷ []) ∙ omega (arith, p .number)));
+        few = omega (arith, p .few);
+        bytes = rw (bound-yes x b, values-more vs v, n)
+            (e ∙ ap (λ (r : List ℕ). over r (headSize + count * valueSize) (replyValue v) valueSize) (p .bytes) ∙ over-append d headSize (valuesBytes vs) (count * valueSize) (replyValue v) valueSize (omega arith) l);
+      }
+
+  pub passed-no : (x : ℕ) (d out : List ℕ) (count : ℕ) → getD bs x false ≡ false → Passed x d out count → Passed (x + 1) d out count
+  passed-no x d out count b p = record { number = rw (bound-no x b) (p .number); few = omega (arith, p .few); bytes = rw (bound-no x b) (p .bytes) }
+
+  -- all variables are passed
+  pub put-all : (x : ℕ) (d out : List ℕ) (count : ℕ) → x ≡ variables → Passed x d out count → PutValues (boundTo variables bs ks ns) d out count
+  put-all x d out count e p = rw (← e) (record { number = p .number; few = omega (arith, p .few); bytes = p .bytes })
+
+-- ---- the whole reply
+
+reply-parts : (position host process outcome branch : ℕ) (vs : List (ℕ × Value))
+    → replyBytes (reply position host process outcome branch vs) ≡ headBytes position host process outcome branch (length vs) ++ valuesBytes vs
+unfolding replyBytes headBytes valuesBytes bigEndian
+reply-parts position host process outcome branch vs = refl
+
+head-length : (position host process outcome branch count : ℕ) → length (headBytes position host process outcome branch count) ≡ headSize
+unfolding headBytes bigEndian
+head-length position host process outcome branch count = refl
+
+-- a head after its values
+pub wrote : (position host process outcome branch : ℕ) (vs : List (ℕ × Value)) (d out exit : List ℕ) (count : ℕ) → headSize + count * valueSize ≤ length d → PutValues vs d out count
+    → exit ≡ over out 0 (headBytes position host process outcome branch count) headSize → Wrote (reply position host process outcome branch vs) d exit (headSize + count * valueSize)
+wrote position host process outcome branch vs d out exit count room p e =
+    let head : List ℕ = headBytes position host process outcome branch count in
+    let w : ℕ = count * valueSize in
+    let lv : length (valuesBytes vs) ≡ w = values-length vs ∙ ap (λ (n : ℕ). n * valueSize) (sym (p .number)) in
+    let parts : replyBytes (reply position host process outcome branch vs) ≡ head ++ valuesBytes vs = rw (p .number) (reply-parts position host process outcome branch vs) in
+    let n : length (head ++ valuesBytes vs) ≡ headSize + w = length-append head (valuesBytes vs) ∙ omega (arith, head-length position host process outcome branch count) in
+    let rest : drop headSize out ≡ valuesBytes vs ++ drop (headSize + w) d =
+    ap (drop headSize) (p .bytes) ∙ drop-over-at d headSize (valuesBytes vs) w room (omega arith) ∙ ap (λ (l : List ℕ). l ++ drop (headSize + w) d) (take-all w (valuesBytes vs) (omega arith)) in
+    record {
+      bytes = rw (parts, n) (e ∙ over-front out head headSize (head-length position host process outcome branch count) ∙ ap (λ (l : List ℕ). head ++ l) rest ∙ sym (append-assoc head (valuesBytes vs) (drop (headSize + w) d)));
+      number = sym (ap length parts ∙ n);
+    }
+
+-- no values
+pub put-none : (d : List ℕ) → PutValues [] d d 0
+unfolding valuesBytes flatMap
+put-none d = record { number = refl; few = omega arith; bytes = over-none d headSize [] }
+
+-- one value
+pub put-one : (d out : List ℕ) (v : ℕ × Value) → out ≡ over d headSize (replyValue v) valueSize → PutValues (v ∷ []) d out 1
+unfolding valuesBytes flatMap
+put-one d out v e = record { number = refl; few = omega arith; bytes = rw (append-nil (replyValue v)) e }
+
+-- "A refused record has no values"
+pub ran-failed : (outcome : ℕ) (bs : List Bool) (ks ns : List ℕ) → eqb outcome 0 ≡ false → ranValues outcome bs ks ns ≡ []
+unfolding ranValues
+ran-failed outcome bs ks ns e = rw e
+
+pub ran-done : (outcome : ℕ) (bs : List Bool) (ks ns : List ℕ) → eqb outcome 0 ≡ true → ranValues outcome bs ks ns ≡ boundTo variables bs ks ns
+unfolding ranValues
+ran-done outcome bs ks ns e = rw e
+
+-- ---- the bound variables, as the run keeps them
+
+bound-append : (x : ℕ) (bs : Bindings) (b : Option Value) → boundFrom x (bs ++ (b ∷ [])) ≡ boundFrom x bs ++ maybe {B = List (ℕ × Value)} b [] (λ v. (x + length bs, v) ∷ [])
+unfolding boundFrom
+bound-append x [] none = refl
+bound-append x [] (some v) = let e : x ≡ x + 0 = omega arith in λ i. (e i, v) ∷ []
+bound-append x (none ∷ bs) b = let e : suc x + length bs ≡ x + suc (length bs) = omega arith in rw (bound-append (suc x) bs b, e)
+bound-append x (some u ∷ bs) b = let e : suc x + length bs ≡ x + suc (length bs) = omega arith in rw (bound-append (suc x) bs b, e)
+
+-- bindings whose every entry is what the three lists say at its place
+pub bound-from : (bs : List Bool) (ks ns : List ℕ) (vs : Bindings) → ((x : ℕ) → getD vs x none ≡ provided (getD bs x false) (value (getD ks x 0) (getD ns x 0)))
+    → (n : ℕ) → n ≤ length vs → boundTo n bs ks ns ≡ boundFrom 0 (take n vs)
+unfolding boundTo boundFrom provided
+bound-from bs ks ns vs at zero h = refl
+bound-from bs ks ns vs at (suc n) h =
+    let k : length (take n vs) ≡ n = length-take-le n vs (omega arith) in
+    let place : 0 + length (take n vs) ≡ n = omega arith in
+    rw (take-suc vs n none h, bound-append 0 (take n vs) (getD vs n none), ← bound-from bs ks ns vs at n (omega arith), at n)
+    (ap (λ (l : List (ℕ × Value)). boundTo n bs ks ns ++ l) (sym (last (getD bs n false) (value (getD ks n 0) (getD ns n 0)) (0 + length (take n vs)) n place)))
+  where
+    last : (b : Bool) (v : Value) (x y : ℕ) → x ≡ y → maybe {B = List (ℕ × Value)} (cond b (some v) none) [] (λ (u : Value). (x, u) ∷ []) ≡ cond {A = List (ℕ × Value)} b ((y, v) ∷ []) []
+    last true v x y e = λ i. (e i, v) ∷ []
+    last false v x y e = refl
