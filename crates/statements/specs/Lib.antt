@@ -5,3 +5,5 @@ pub mod Fields
 pub mod FlatLaws
 pub mod Several
 pub mod Operations
+pub mod Kinds
+pub mod Walk

@@ -70,12 +70,12 @@ pub record Underway (b : List ℕ) (at count : ℕ) (fields : List Field) (end i
 pub fields-start : (b : List ℕ) (at count : ℕ) (fields : List Field) → 0 < at → at ≤ length b → length fields ≡ 6 → Underway b at count fields at 0
 unfolding fieldsAre
 fields-start b at count fields h l r = record {
-    few = omega arith;
-    past = h;
-    within = l;
-    room = r;
-    rest = let e : count - 0 ≡ count = omega arith in rw e (several-start field count (drop at b));
-  }
+  few = omega arith;
+  past = h;
+  within = l;
+  room = r;
+  rest = let e : count - 0 ≡ count = omega arith in rw e (several-start field count (drop at b));
+}
 
 -- the fields up to one that was just put in
 fields-set : (fields : List Field) (i : ℕ) (f : Field) → i < length fields → fieldsAre (take (i + 1) (set fields i f)) ≡ fieldsAre (take i fields) ++ (fieldIs f ∷ [])

@@ -1,0 +1,142 @@
+use borrow.Author.Needs.{needs}
+use mathlib.Core.Path.{_≡_, sym, ap, _∙_}
+use Prim.Native.Nat.{ℕ, _≤_, _<_}
+use native.Mathlib.Omega.{arith}
+use mathlib.Core.List.{List}
+use lib.ListN.{length}
+use denote.Ref.{now}
+use Rattle.basis.specs.Lists.{first}
+use Rattle.tuples.specs.declared.Found.the-variants.{At}
+use Rattle.tuples.specs.Section.{tuplesOf}
+use Rattle.tuples.specs.SectionLaws.{holds-length}
+use Rattle.tuples.specs.Hits.{hits, foundIs}
+use Rattle.engine.specs.Fields.{fieldsIn, length-mapped, fields-length}
+use Rattle.engine.specs.Variables.{bindingsOf}
+use Rattle.engine.specs.Performing.{at-below, at-count, look-none, look-removed, look-read}
+use Rattle.engine.proofs.look_up.Statement.{statement}
+use Rattle.engine.proofs.look_up.Tie as tie
+use Rattle.engine.proofs.look_up.Reads as reads
+use Rattle.engine.proofs.look_up.Lts as lts
+use Rattle.engine.proofs.bind_at.Reads as bind-at-reads
+use Rattle.engine.proofs.template_of.Reads as template-of-reads
+use Rattle.tuples.proofs.find.Reads as find-reads
+use Rattle.tuples.proofs.remove.Reads as remove-reads
+
+few : (c : tie.Start) → c .args .op .count ≤ length (c .args .op .fields)
+few c = let six : length (c .args .op .fields) ≡ 6 = search (needs, length-mapped) in omega (arith, c .pre .1)
+
+module _ (c : tie.After-find) where
+  abbrev start : tie.Start
+  start = c .before .before .before .before
+
+  abbrev bytes : List ℕ
+  bytes = now (start .args .tuples)
+
+  -- a tuple that was found
+  found : (i : ℕ) → c .find .result ≡ At i → foundIs bytes (At i) ≡ first (hits (c .before .template-of .result)) (tuplesOf bytes (start .args .n))
+  found i e = ap (foundIs bytes) (sym e) ∙ c .find .ensures
+
+  below : (i : ℕ) → c .find .result ≡ At i → i < start .args .n
+  below i e = at-below (bindingsOf (start .args .v)) (start .args .op .from) (fieldsIn (start .args .op)) bytes (start .args .n) (c .before .template-of .result) (c .before .template-of .ensures) i (found i e)
+
+-- src/lib.rt:233:35
+template-of-requires : tie.Need-template-of-requires
+template-of-requires c κs = search needs
+
+-- src/lib.rt:233:11
+find-requires : tie.Need-find-requires
+find-requires c κs =
+    let start = c .before .before .before in
+    (holds-length _ _ _ (start .pre .0), start .pre .0 .few, c .template-of .ensures .few)
+
+-- src/lib.rt:234:19
+enum-known-i : tie.Need-enum-known-i
+enum-known-i c = search needs
+
+-- src/lib.rt:235:17
+bind-at-requires : tie.Need-bind-at-requires
+bind-at-requires c κs =
+    let at = c .before .before .before .before in
+    let i = c .before .before .i .given .0 .0 in
+    let e = c .before .before .i .given .1 in
+    let a = (start at) .args in (
+      start at .pre .1,
+      omega (arith, below at i e, start at .pre .0 .few, holds-length _ _ _ (start at .pre .0)),
+      at-count (bindingsOf (a .v)) (a .op .from) (fieldsIn (a .op)) (bytes at) (a .n) (at .before .template-of .result) (at .before .template-of .ensures) i (found at i e)
+          ∙ fields-length (a .op .fields) (a .op .count) (few (start at)),
+    )
+
+-- src/lib.rt:237:17
+remove-requires : tie.Need-remove-requires
+remove-requires c κs =
+    let arm = c .before .before .before .before .before in
+    let at = arm .before .before in
+    (start at .pre .0, below at (arm .i .given .0 .0) (arm .i .given .1))
+
+-- src/lib.rt:240:24
+sub-t19 : tie.Need-sub-t19
+sub-t19 c =
+    let arm = c .before .before .before .before .before .before .before .before in
+    let at = arm .before .before in
+    let l = below at (arm .i .given .0 .0) (arm .i .given .1) in omega arith
+
+-- src/lib.rt:238:17
+same-length : tie.Need-same-length
+same-length c = search needs
+
+-- src/lib.rt:238:17
+returns : tie.Need-returns
+returns c =
+    let arm = c .before .before .before .before .before .before .before .before in
+    let at = arm .before .before in
+    let a = (start at) .args in
+    look-removed (bindingsOf (a .v)) (a .op .from) (fieldsIn (a .op)) (bytes at) (a .n) (at .before .template-of .result) (at .before .template-of .ensures) (a .withdraws) (c .before .before .before .before .if1 .taken)
+    (arm .i .given .0 .0) (c .before .before .before .before .before .bind-at .result) _
+    (found at (arm .i .given .0 .0) (arm .i .given .1)) (c .before .before .before .before .before .bind-at .ensures) (c .before .before .remove .ensures)
+
+-- src/lib.rt:250:27
+enum-told : tie.Need-enum-told
+enum-told c = search needs
+
+-- src/lib.rt:229:1
+same-length-2 : tie.Need-same-length-2
+same-length-2 c = search needs
+
+-- src/lib.rt:229:1
+returns-2 : tie.Need-returns-2
+returns-2 c =
+    let arm = c .before .before .before .before in
+    let at = arm .before .before in
+    let a = (start at) .args in
+    look-read (bindingsOf (a .v)) (a .op .from) (fieldsIn (a .op)) (bytes at) (a .n) (at .before .template-of .result) (at .before .template-of .ensures) (a .withdraws) (c .if1 .left)
+    (arm .i .given .0 .0) (c .before .bind-at .result) (found at (arm .i .given .0 .0) (arm .i .given .1)) (c .before .bind-at .ensures) (start at .pre .0)
+
+-- src/lib.rt:229:1
+same-length-3 : tie.Need-same-length-3
+same-length-3 c = search needs
+
+-- src/lib.rt:229:1
+returns-3 : tie.Need-returns-3
+returns-3 c =
+    let at = c .before .before in
+    let a = (start at) .args in
+    look-none (bindingsOf (a .v)) (a .op .from) (fieldsIn (a .op)) (bytes at) (a .n) (at .before .template-of .result) (at .before .template-of .ensures) (a .withdraws) (a .v) (bytes at)
+    (ap (foundIs (bytes at)) (sym (c .enum-told .given .1)) ∙ at .find .ensures)
+
+pub look-up-spec : {M : Type 1} → statement M
+look-up-spec =
+    tie.close
+    (tie.spec
+    template-of-requires
+    find-requires
+    enum-known-i
+    bind-at-requires
+    remove-requires
+    sub-t19
+    same-length
+    returns
+    enum-told
+    same-length-2
+    returns-2
+    same-length-3
+    returns-3)

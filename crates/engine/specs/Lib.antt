@@ -1,0 +1,7 @@
+pub mod Fields
+pub mod Variables
+pub mod Templates
+pub mod Binding
+pub mod Making
+pub mod Performing
+pub mod Codes
