@@ -7,11 +7,11 @@ use mathlib.Core.Bool.{Bool, true, false, not, cond, _||_}
 use mathlib.Core.List.{List, [], _∷_, _++_, map, flatMap, append-assoc, append-nil, List·Memᴰ, List·Memᴰ·head, List·Memᴰ·tail}
 use lib.ListN.{length, take, drop, getD, set, replicate, length-set, length-append, length-map}
 use lib.Seq.{getD-set-other}
-use lib.Dec.{T, leb, ltb, nleb→lt, lt→ltb, lit≤}
+use lib.Dec.{T, eqb, leb, ltb, nleb→lt, lt→ltb, lit≤}
 use borrow.Rule.Slice.PartMut.{putMid}
-use Rattle.basis.specs.Logic.{not-eq, both, or-no}
+use Rattle.basis.specs.Logic.{not-eq, both, or-no, is-true, and-l, and-r}
 use Rattle.basis.specs.Lists.{all, keep, removeAt, countFrom, zeros, pad}
-use Rattle.basis.specs.ListLaws.{each-nil, each-cons, each-append, all-at, all-of, keep-in, keep-true, countFrom-length}
+use Rattle.basis.specs.ListLaws.{each-nil, each-cons, each-append, all-at, all-of, keep-in, keep-true, keep-few, countFrom-length}
 use Rattle.basis.specs.Numbers.{bigEndian, numberAt, mask, bits}
 use Rattle.basis.specs.NumberLaws.{bigEndian-length}
 use Rattle.basis.specs.Sizes.{positionWidth, maskWidth, nextWidth, tupleCountWidth, hosts, positions, lastAt, maskAt, monitorsAt, nextAt, spaceCountAt, tupleCountAt, waitingCountAt, spaceSize, spacesSize, tuplesSize, waitingAllSize, spacesAt, tuplesAt, waitingAt, stateSize, processes, mostSpaces, spaceNumbers, mostMonitors, mostTuples, mostWaiting, waitingSize, spaceWidth}
@@ -22,9 +22,9 @@ use Rattle.model.specs.Matching.{Tuple}
 use Rattle.model.specs.BoundKinds as Kinds
 use Rattle.model.specs.Keeps.{LegalIn, legal-tuple}
 use Rattle.model.specs.Run.{Access, shared, private, Space, Waiting, Run, withLast, withUp, withMonitors, withSpaces, withTuples, withWaiting, nextMonitor, monitorsUsedUp, monitorNumbers, hostUp}
-use Rattle.model.specs.Step.{failureTuple, failureTuples, recovered, crashed, opened}
+use Rattle.model.specs.Step.{failureTuple, failureTuples, someWaitingNames, recovered, crashed, opened, closed}
 use Rattle.model.specs.Fit.{Fit}
-use Rattle.model.specs.Effects.{recovered-fit, monitored-fit, opened-fit, queue-in, queue-keep, queue-removeAt, failures-legal}
+use Rattle.model.specs.Effects.{recovered-fit, monitored-fit, opened-fit, closed-fit, queue-in, queue-keep, queue-removeAt, failures-legal}
 use Rattle.model.specs.Preserve.{later-fit}
 use Rattle.layout.specs.States.{accessBytes, spaceBytes, tupleBytes, byteAt, decode}
 use Rattle.layout.specs.StateLaws.{area-length}
@@ -40,6 +40,7 @@ use Rattle.records.specs.Stored.{Stored, Said}
 use Rattle.records.specs.StoredLaws.{stored-says, stored-parts, stored-length, stored-tuples, space-count, tuple-count, waiting-count}
 use Rattle.records.specs.Queue.{waitingOf, Queued, ofOther, enqueued}
 use Rattle.records.specs.QueueLaws.{queued-length, queued-reads, stored-queue, queue-more}
+use Rattle.records.specs.SpaceList.{spacesOf, Listed, otherThan, listed-length, listed-reads, stored-spaces}
 
 -- ---- the numbers of the header
 
@@ -131,6 +132,7 @@ put-back : (b x : List ℕ) (at n : ℕ) → length x ≡ n → putMid at n b x 
 put-back b x at n l = over-lent b x at n l
 
 pub waiting-changed : (b x : List ℕ) (s : Run) (n : ℕ) (ws : List Waiting) → Stored b s → Queued x n ws → Fit (withWaiting s ws) → Stored (set (putMid waitingAt waitingAllSize b x) waitingCountAt n) (withWaiting s ws)
+unfolding waitingArea
 waiting-changed b x s n ws h q f =
     let s′ : Run = withWaiting s ws in
     let lx : length x ≡ waitingAllSize = queued-length x n ws q in
@@ -436,3 +438,74 @@ opens b x b₂ n next p isPrivate h t small en ex stored e =
       bytes = e ∙ (ap (λ (l : List ℕ). over l nextAt (bigEndian nextWidth (next + 1)) nextWidth) one ∙ (ap (λ (k : ℕ). over c₂ nextAt (bigEndian nextWidth k) nextWidth) step ∙ parts-encode _ s′ p₃));
       fit = opened-fit s (h .fit) p isPrivate small t;
     }
+
+-- ---- DS
+
+-- the tuples outside a space
+abbrev pub outside : ℕ → Tuple → Bool
+outside n t = not (eqb (t .space) n)
+
+kept-tuples-fit : (s : Run) (p : Tuple → Bool) → Fit s → Fit (withTuples s (keep p (s .tuples)))
+kept-tuples-fit s p f = record {
+  last = f .last;
+  hosts = f .hosts;
+  monitors = f .monitors;
+  spaces = f .spaces;
+  tuples = record { few = omega (arith, keep-few p (s .tuples), f .tuples .few); each = λ t m. f .tuples .each t (keep-in p (s .tuples) t m) };
+  waiting = f .waiting;
+}
+
+pub clears : (b x b′ : List ℕ) (n left m : ℕ) → Said b → n ≡ numberAt tupleCountAt tupleCountWidth b → Holds x left (keep (outside m) (tuplesOf (take tuplesSize (drop tuplesAt b)) n))
+    → b′ ≡ over (putMid tuplesAt tuplesSize b x) tupleCountAt (bigEndian tupleCountWidth left) tupleCountWidth → Stored b′ (withTuples (decode b) (keep (outside m) ((decode b) .tuples)))
+clears b x b′ n left m h e k stored =
+    let r = reads (take tuplesSize (drop tuplesAt b)) n ((decode b) .tuples) (said-tuples b n h e) in
+    tuples-changed b x b′ (decode b) left (keep (outside m) ((decode b) .tuples)) h (rw r at k) (kept-tuples-fit (decode b) (outside m) (h .fit)) stored
+
+spaces-changed : (b x : List ℕ) (s : Run) (n : ℕ) (ss : List Space) → Stored b s → Listed x n ss → Fit (withSpaces s (s .next) ss) → Stored (set (putMid spacesAt spacesSize b x) spaceCountAt n) (withSpaces s (s .next) ss)
+unfolding spacesArea
+spaces-changed b x s n ss h q f =
+    let s′ : Run = withSpaces s (s .next) ss in
+    let lx : length x ≡ spacesSize = listed-length x n ss q in
+    let c : List ℕ = over b spacesAt x spacesSize in
+    let lc : length c ≡ stateSize = over-length b spacesAt x spacesSize (omega (arith, stored-length b s h)) (omega arith) ∙ stored-length b s h in
+    let p = over-spaces b _ _ _ _ (stored-parts b s h) x lx in
+    let p′ : Parts c (headRun s) (spacesArea ss) (tuplesArea (s .tuples)) (waitingArea (s .waiting)) = subst (λ (r : List ℕ). Parts c (headRun s) r (tuplesArea (s .tuples)) (waitingArea (s .waiting))) (q .bytes) p in
+    record {
+      bytes = ap (λ (l : List ℕ). set l spaceCountAt n) (put-back b x spacesAt spacesSize lx) ∙ (over-set c spaceCountAt n (omega arith) ∙ (ap (λ (k : ℕ). over c spaceCountAt (k ∷ []) 1) (q .count)
+          ∙ parts-encode _ s′ (over-head c _ _ _ _ p′ (headRun s′) spaceCountAt (length ss ∷ []) 1 refl (omega arith) (put-space-count _ _ _ _ _ _ _ (length ss)))));
+      fit = f;
+    }
+
+keep-all : (p : Tuple → Bool) (l : List Tuple) → T (all p l) → keep p l ≡ l
+unfolding keep all
+keep-all p [] t = refl
+keep-all p (a ∷ l) t =
+    let e : p a ≡ true = is-true (p a) (and-l (p a) (all p l) t) in
+    rw e (ap (λ (r : List Tuple). a ∷ r) (keep-all p l (and-r (p a) (all p l) t)))
+
+-- a space that no tuple lies in and no waiting statement names
+empty-fit : (s : Run) (n : ℕ) → Fit s → T (all (outside n) (s .tuples)) → T (not (eqb n 0 || someWaitingNames s n)) → Fit (withSpaces s (s .next) (keep (otherThan n) (s .spaces)))
+unfolding closed
+empty-fit s n f e t = subst (λ (ts : List Tuple). Fit (withTuples (withSpaces s (s .next) (keep (otherThan n) (s .spaces))) ts)) (keep-all (outside n) (s .tuples) e) (closed-fit s f n t)
+
+-- the spaces that the bytes say, as they are lent
+pub said-spaces : (b : List ℕ) (n : ℕ) → Said b → n ≡ getD b spaceCountAt 0 → Listed (take spacesSize (drop spacesAt b)) n ((decode b) .spaces)
+said-spaces b n h e = rw (e ∙ space-count b) (stored-spaces b (decode b) h)
+
+pub unlists : (b x : List ℕ) (n left m : ℕ) → Said b → T (all (outside m) ((decode b) .tuples)) → T (not (eqb m 0 || someWaitingNames (decode b) m)) → n ≡ getD b spaceCountAt 0
+    → Listed x left (keep (otherThan m) (spacesOf (take spacesSize (drop spacesAt b)) n))
+    → Stored (set (putMid spacesAt spacesSize b x) spaceCountAt left) (withSpaces (decode b) ((decode b) .next) (keep (otherThan m) ((decode b) .spaces)))
+unlists b x n left m h empty t e q =
+    let r = listed-reads (take spacesSize (drop spacesAt b)) n ((decode b) .spaces) (said-spaces b n h e) in
+    spaces-changed b x (decode b) left (keep (otherThan m) ((decode b) .spaces)) h (rw r at q) (empty-fit (decode b) m (h .fit) empty t)
+
+pub outside-kept : (b b₁ : List ℕ) (m : ℕ) → Stored b₁ (withTuples (decode b) (keep (outside m) ((decode b) .tuples))) → T (all (outside m) ((decode b₁) .tuples))
+outside-kept b b₁ m k = rw (stored-says b₁ _ k) (all-of (outside m) (keep (outside m) ((decode b) .tuples)) (keep-true (outside m) ((decode b) .tuples)))
+
+pub still-free : (b b₁ : List ℕ) (ts : List Tuple) (m : ℕ) → Stored b₁ (withTuples (decode b) ts) → T (not (eqb m 0 || someWaitingNames (decode b) m)) → T (not (eqb m 0 || someWaitingNames (decode b₁) m))
+unfolding someWaitingNames
+still-free b b₁ ts m k t = rw (stored-says b₁ (withTuples (decode b) ts) k) t
+
+pub closes : (b b₁ b₂ : List ℕ) (m : ℕ) → Stored b₁ (withTuples (decode b) (keep (outside m) ((decode b) .tuples))) → Stored b₂ (withSpaces (decode b₁) ((decode b₁) .next) (keep (otherThan m) ((decode b₁) .spaces))) → Stored b₂ (closed (decode b) m)
+unfolding closed
+closes b b₁ b₂ m k₁ k₂ = subst (λ (s : Run). Stored b₂ (withSpaces s (s .next) (keep (otherThan m) (s .spaces)))) (stored-says b₁ _ k₁) k₂

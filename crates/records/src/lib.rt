@@ -4,21 +4,22 @@ ghost use mathlib.Core.Bool.{true, false, not, _||_};
 ghost use mathlib.Core.List.{_++_};
 ghost use Prim.Native.Nat.{_+_, _*_, _-_, _≤_, _<_};
 ghost use lib.ListN.{length, set};
-ghost use lib.Dec.{T, leb};
+ghost use lib.Dec.{T, leb, eqb};
 ghost use Rattle.basis.specs.Lists.{all, keep, removeAt};
 ghost use Rattle.basis.specs.Numbers.{bigEndian};
 ghost use Rattle.basis.specs.Sizes.{hosts, mostBody, mostMonitors, mostWaiting, mostSpaces, mostTuples, spaceNumbers, spaceSize, spacesSize, waitingSize};
 ghost use Rattle.model.specs.Statement.{Statement};
 ghost use Rattle.model.specs.Writing.{statementBytes};
-ghost use Rattle.model.specs.Run.{withLast, withUp, withMonitors, withTuples, withWaiting, hostUp, nextMonitor, monitorsUsedUp};
-ghost use Rattle.model.specs.Step.{failureTuple, failureTuples, recovered, crashed, opened};
+ghost use Rattle.model.specs.Run.{withLast, withUp, withMonitors, withSpaces, withTuples, withWaiting, hostUp, nextMonitor, monitorsUsedUp};
+ghost use Rattle.model.specs.Step.{failureTuple, failureTuples, someWaitingNames, recovered, crashed, opened, closed};
 ghost use Rattle.model.specs.Fit.{Fit};
 ghost use Rattle.layout.specs.States.{spaceBytes, decode};
 ghost use Rattle.words.specs.Over.{over};
 ghost use Rattle.tuples.specs.Section.{entryBytes, tuplesOf, Holds, Section};
 ghost use Rattle.records.specs.Stored.{Stored, Said};
 ghost use Rattle.records.specs.Queue.{waitingOf, Queued, ofOther, enqueued};
-ghost use Rattle.records.specs.Changes.{failures, opening};
+ghost use Rattle.records.specs.SpaceList.{spacesOf, Listed, otherThan};
+ghost use Rattle.records.specs.Changes.{failures, opening, outside};
 
 // "A step sets the last number".
 pub fn set_last(state: &mut [u8], position: u32)
@@ -217,4 +218,69 @@ pub fn open_space(state: &mut [u8], process: u16, owned: bool) -> u16
     state[words::SPACE_COUNT_AT] = (n + 1) as u8;
     words::put2(state, words::NEXT_AT, number + 1);
     number
+}
+
+// The space at index i cut out, the later ones moved down.
+fn cut_space(spaces: &mut [u8], n: usize, i: usize)
+    requires { ⌜ Listed (now spaces) n (spacesOf (now spaces) n) × (i < n) ⌝ }
+    ensures { λ _. ⌜ Listed (now (spaces .exit)) (n - 1) (removeAt i (spacesOf (now (spaces .entry)) n)) ⌝ }
+{
+    words::move_down(
+        spaces,
+        i * words::SPACE,
+        (i + 1) * words::SPACE,
+        (n - 1 - i) * words::SPACE,
+    );
+    words::clear(spaces, (n - 1) * words::SPACE, words::SPACE);
+}
+
+// "DS removes the space": the count of those left.
+fn drop_number(spaces: &mut [u8], n: usize, number: u8) -> usize
+    requires { ⌜ Listed (now spaces) n (spacesOf (now spaces) n) ⌝ }
+    ensures { λ r. ⌜ Listed (now (spaces .exit)) r (keep (otherThan number) (spacesOf (now (spaces .entry)) n)) ⌝ }
+{
+    let mut left = n;
+    let mut i = 0;
+    while i < left {
+        if spaces[i * words::SPACE] == number {
+            cut_space(spaces, left, i);
+            left -= 1;
+        } else {
+            i += 1;
+        }
+    }
+    left
+}
+
+// "and its tuples".
+fn close_tuples(state: &mut [u8], space: u8)
+    requires { ⌜ Said (now state) ⌝ }
+    ensures { λ _. ⌜ Stored (now (state .exit)) (withTuples (decode (now (state .entry))) (keep (outside space) ((decode (now (state .entry))) .tuples))) ⌝ }
+{
+    let n = words::word2(state, words::TUPLE_COUNT_AT) as usize;
+    let left = tuples::drop_space(
+        &mut state[words::TUPLES_AT..words::WAITING_AT],
+        n,
+        space as u16,
+    );
+    words::put2(state, words::TUPLE_COUNT_AT, left as u16);
+}
+
+// A space with no tuples, which no waiting statement names, is taken from the list.
+fn close_entry(state: &mut [u8], space: u8)
+    requires { ⌜ Said (now state) × T (all (outside space) ((decode (now state)) .tuples)) × T (not (eqb space 0 || someWaitingNames (decode (now state)) space)) ⌝ }
+    ensures { λ _. ⌜ Stored (now (state .exit)) (withSpaces (decode (now (state .entry))) ((decode (now (state .entry))) .next) (keep (otherThan space) ((decode (now (state .entry))) .spaces))) ⌝ }
+{
+    let n = words::size(state[words::SPACE_COUNT_AT]);
+    let left = drop_number(&mut state[words::SPACES_AT..words::TUPLES_AT], n, space);
+    state[words::SPACE_COUNT_AT] = left as u8;
+}
+
+// "closes a space, with its tuples".
+pub fn close_space(state: &mut [u8], space: u8)
+    requires { ⌜ Said (now state) × T (not (eqb space 0 || someWaitingNames (decode (now state)) space)) ⌝ }
+    ensures { λ _. ⌜ Stored (now (state .exit)) (closed (decode (now (state .entry))) space) ⌝ }
+{
+    close_tuples(state, space);
+    close_entry(state, space);
 }

@@ -1,8 +1,8 @@
 -- The front of a body, and the statement that a legal one is. Assumes nothing.
-use mathlib.Core.Path.{_≡_, refl, sym, ap, _∙_}
-use Prim.Native.Nat.{ℕ, _+_, _≤_, _<_}
+use mathlib.Core.Path.{_≡_, refl, ap, _∙_}
+use Prim.Native.Nat.{ℕ, _≤_, _<_}
 use native.Mathlib.Omega.{arith}
-use mathlib.Core.Bool.{Bool, true, false, cond}
+use mathlib.Core.Bool.{cond}
 use mathlib.Core.Logic.{_⊎_, inl, inr}
 use mathlib.Core.Option.{Option, none, some, Option·getD, Option·some-injective, Option·none-ne-some}
 use mathlib.Core.List.{List, [], _∷_}
@@ -13,7 +13,7 @@ use Rattle.basis.specs.Lists.{isEmpty}
 use Rattle.basis.specs.Numbers.{numberAt}
 use Rattle.basis.specs.Sizes.{hostWidth, processWidth}
 use Rattle.model.specs.Statement.{Branch, Statement}
-use Rattle.model.specs.Reading.{Reader, _>>=_, give, byte, natural, several, counted, wholeOf, branch, statement}
+use Rattle.model.specs.Reading.{Reader, _>>=_, give, several, counted, wholeOf, branch, statement}
 use Rattle.model.specs.Legal.{parse, legalBody}
 use Rattle.layout.specs.States.{noStatement}
 use Rattle.statements.specs.At.{which}

@@ -5,3 +5,6 @@ pub mod Queue
 pub mod Refusal
 pub mod Walk
 pub mod WalkLaws
+pub mod PassLaws
+pub mod Marks
+pub mod Names

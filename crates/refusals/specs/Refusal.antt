@@ -1,9 +1,9 @@
 -- The number of the first check that refuses, 0 where none does. Assumes nothing.
 use mathlib.Core.Path.{_≡_, refl, sym, ap, _∙_}
-use Prim.Native.Nat.{ℕ, zero, suc, _+_, _≤_, _<_}
+use Prim.Native.Nat.{ℕ, _+_, _≤_, _<_}
 use native.Mathlib.Omega.{arith}
-use mathlib.Core.Bool.{Bool, true, false, not, _||_, cond}
-use mathlib.Core.Option.{Option, none, some}
+use mathlib.Core.Bool.{Bool, true, false, not, _||_}
+use mathlib.Core.Option.{Option, none}
 use mathlib.Core.List.{List, [], _∷_, _++_, append-assoc}
 use lib.ListN.{length, getD}
 use lib.Dec.{leb, ltb, eqb}
@@ -13,9 +13,8 @@ use Rattle.basis.specs.Lists.{any}
 use Rattle.basis.specs.ListLaws.{countFrom-length}
 use Rattle.basis.specs.Numbers.{numberAt}
 use Rattle.basis.specs.Sizes.{nextAt, nextWidth, monitorsAt, spaceCountAt, tupleCountAt, tupleCountWidth, mostMonitors, mostSpaces, mostTuples, spaceNumbers}
-use Rattle.model.specs.Statement.{Statement, spacesNamed}
 use Rattle.model.specs.Run.{Run, hostUp, isWaiting, isOpen, isDenied, monitorNumbers, monitorsUsedUp}
-use Rattle.model.specs.Step.{checks, standing, access, someWaitingNames, failureTuple, failureTuples, recover, crash, monitor, openSpace, closeSpace, guarded}
+use Rattle.model.specs.Step.{checks, standing, access, someWaitingNames, failureTuple, failureTuples, recover, crash, monitor, closeSpace}
 use Rattle.layout.specs.States.{byteAt, decode}
 use Rattle.refusals.specs.Entries.{length-map}
 use Rattle.refusals.specs.Stored.{spaces-count, tuples-count}
@@ -155,3 +154,40 @@ module _ (s : Run) (p : ℕ) (ns : List ℕ) (cs : List (Bool × ℕ)) where
   pub allowed : any (λ n. not (isOpen (s .spaces) n)) ns ≡ false → any (isDenied (s .spaces) p) ns ≡ false → refusal cs ≡ refusal (access s p ns ++ cs)
   unfolding access
   allowed e d = refusal-no (any (isDenied (s .spaces) p) ns) 11 cs d ∙ refusal-no (any (λ n. not (isOpen (s .spaces) n)) ns) 10 _ e
+
+-- ---- the space that is closed: 10, 11, 15
+
+unfoldable pub closing : Run → (process space : ℕ) → List (Bool × ℕ)
+closing s p n = access s p (n ∷ []) ++ ((eqb n 0 || someWaitingNames s n, 15) ∷ [])
+
+pub close-checks : (s : Run) (h p n : ℕ) → standing s h p ++ closing s p n ≡ checks s (closeSpace h p n)
+unfolding checks closing
+close-checks s h p n = sym (append-assoc (standing s h p) (access s p (n ∷ [])) ((eqb n 0 || someWaitingNames s n, 15) ∷ []))
+
+any-one : (f : ℕ → Bool) (n : ℕ) (t : Bool) → f n ≡ t → any f (n ∷ []) ≡ t
+unfolding any
+any-one f n true e = rw e
+any-one f n false e = rw e
+
+module _ (s : Run) (p n : ℕ) where
+  abbrev rest : List (Bool × ℕ)
+  rest = (eqb n 0 || someWaitingNames s n, 15) ∷ []
+
+  pub close-closed : isOpen (s .spaces) n ≡ false → 10 ≡ refusal (closing s p n)
+  unfolding closing
+  close-closed e = not-open s p (n ∷ []) rest (any-one (λ n. not (isOpen (s .spaces) n)) n true (ap not e))
+
+  pub close-denied : isOpen (s .spaces) n ≡ true → isDenied (s .spaces) p n ≡ true → 11 ≡ refusal (closing s p n)
+  unfolding closing
+  close-denied e d = denied s p (n ∷ []) rest (any-one (λ n. not (isOpen (s .spaces) n)) n false (ap not e)) (any-one (isDenied (s .spaces) p) n true d)
+
+  module _ (e : isOpen (s .spaces) n ≡ true) (d : isDenied (s .spaces) p n ≡ false) where
+    close-allowed : refusal rest ≡ refusal (closing s p n)
+    unfolding closing
+    close-allowed = allowed s p (n ∷ []) rest (any-one (λ n. not (isOpen (s .spaces) n)) n false (ap not e)) (any-one (isDenied (s .spaces) p) n false d)
+
+    pub close-used : (eqb n 0 || someWaitingNames s n) ≡ true → 15 ≡ refusal (closing s p n)
+    close-used u = refusal-yes (eqb n 0 || someWaitingNames s n) 15 [] u ∙ close-allowed
+
+    pub close-unused : (eqb n 0 || someWaitingNames s n) ≡ false → 0 ≡ refusal (closing s p n)
+    close-unused u = refusal-last (eqb n 0 || someWaitingNames s n) 15 u ∙ close-allowed

@@ -9,13 +9,13 @@ use lib.Seq.{take-at, drop-at, drop-drop}
 use Rattle.basis.specs.Lists.{zeros, pad, pieces}
 use Rattle.basis.specs.Numbers.{bigEndian, numberAt}
 use Rattle.basis.specs.NumberLaws.{bigEndian-length, number-bigEndian}
-use Rattle.basis.specs.PadLaws.{take-past, pad-length, Wide, pieces-rows, numberAt-pad}
-use Rattle.basis.specs.Sizes.{positionWidth, lengthWidth, maskAt, maskWidth, hosts, nextAt, nextWidth, monitorsAt, spaceCountAt, tupleCountAt, tupleCountWidth, waitingCountAt, headerSize, spacesSize, tuplesSize, waitingAllSize, spacesAt, tuplesAt, waitingAt, spaceSize, tupleSize, waitingBodyAt, waitingSize, stateSize, mostSpaces, mostTuples, mostWaiting, mostBody}
+use Rattle.basis.specs.PadLaws.{take-past, pad-length, pieces-rows, numberAt-pad}
+use Rattle.basis.specs.Sizes.{positionWidth, lengthWidth, spaceCountAt, tupleCountAt, tupleCountWidth, waitingCountAt, headerSize, spacesSize, tuplesSize, waitingAllSize, spacesAt, tuplesAt, waitingAt, spaceSize, tupleSize, waitingBodyAt, waitingSize, stateSize, mostSpaces, mostWaiting, mostBody}
 use Rattle.model.specs.Legal.{parse}
 use Rattle.model.specs.Writing.{statementBytes}
 use Rattle.model.specs.Run.{Space, Waiting, Run}
 use Rattle.model.specs.ReadBack.{parse-some}
-use Rattle.model.specs.Fit.{Fit, Waits}
+use Rattle.model.specs.Fit.{Fit}
 use Rattle.layout.specs.States.{headerBytes, spaceBytes, tupleBytes, waitingBytes, area, encode, byteAt, spaceRead, tupleRead, waitingRead, decode}
 use Rattle.layout.specs.PlaceLaws.{area-unused}
 use Rattle.layout.specs.StateLaws.{area-length, encode-length}

@@ -2,31 +2,30 @@
 use mathlib.Core.Path.{_≡_, refl, sym, ap, subst, _∙_}
 use Prim.Native.Nat.{ℕ, zero, suc, _+_, _-_, _≤_, _<_}
 use native.Mathlib.Omega.{arith}
-use native.Mathlib.Numerals.{add-one}
-use mathlib.Core.Bool.{Bool, true, false, _&&_, _||_, cond}
-use mathlib.Core.Option.{Option, none, some, Option·some-injective, Option·none-ne-some}
+use mathlib.Core.Bool.{Bool, true, false, _||_, cond}
+use mathlib.Core.Option.{none, some, Option·some-injective, Option·none-ne-some}
 use mathlib.Core.List.{List, [], _∷_, _++_, flatMap, List·Memᴰ·head, List·Memᴰ·tail}
 use lib.ListN.{length, drop, getD, length-append, length-drop}
 use lib.Seq.{drop-drop, getD-drop}
-use lib.Dec.{T, leb, ltb, eqb}
+use lib.Dec.{T, eqb}
 use lib.Pow.{areBytes}
 use borrow.Author.Tests.{ne-eqb, lt-ltb}
-use Rattle.basis.specs.Choice.{maybe, provided}
+use Rattle.basis.specs.Choice.{provided}
 use Rattle.basis.specs.Logic.{and-l, and-r, is-true}
 use Rattle.basis.specs.Lists.{any, all}
 use Rattle.basis.specs.ListLaws.{Each, each-nil, each-cons, each-append, all-at}
 use Rattle.basis.specs.NumberLaws.{bytes-drop}
-use Rattle.basis.specs.Sizes.{mostFields, spaceNumbers}
-use Rattle.model.specs.Statement.{Field, Operation, always, lookup, deposit, transfer, Branch, Statement, operations, spacesOf, spacesNamed}
-use Rattle.model.specs.Legal.{Kinds, noKinds, fieldsOf, fieldCount, isSpace, legalFields, bindKinds, legalOperation, legalOperations, legalBranch, legalStatement, parse}
-use Rattle.model.specs.Reading.{Reader, _>>=_, give, byte, several, counted, chosenBy, operation, branch}
-use Rattle.model.specs.RoundTrip.{FitsOperation, FitsBranch, legal-fits}
+use Rattle.basis.specs.Sizes.{spaceNumbers}
+use Rattle.model.specs.Statement.{Operation, always, lookup, deposit, transfer, Branch, Statement, operations, spacesOf, spacesNamed}
+use Rattle.model.specs.Legal.{Kinds, noKinds, fieldsOf, fieldCount, bindKinds, legalOperation, legalOperations, legalBranch, legalStatement, parse}
+use Rattle.model.specs.Reading.{Reader, give, byte, several, counted, operation, branch}
+use Rattle.model.specs.RoundTrip.{legal-fits}
 use Rattle.model.specs.Writing.{operationBytes}
 use Rattle.model.specs.ReadBack.{then-some, parse-some, writes-operation}
-use Rattle.statements.specs.At.{Suffix, suffix-byte, suffix-several, placed, readAt, passed, suffix-at}
+use Rattle.statements.specs.At.{readAt, passed, suffix-at}
 use Rattle.statements.specs.Operations.{suffix-operation}
 use Rattle.statements.specs.Flat.{fewFields, operationAt}
-use Rattle.refusals.specs.Head.{Head, head-of}
+use Rattle.refusals.specs.Head.{head-of}
 use Rattle.refusals.specs.Walk.{passOperation, passSeveral, passCounted, passBranch}
 
 -- ---- lists

@@ -2,11 +2,10 @@
 use mathlib.Core.Path.{_≡_, refl, sym, ap, _∙_}
 use Prim.Native.Nat.{ℕ, zero, suc, _+_, _-_, _≤_, _<_}
 use native.Mathlib.Omega.{arith}
-use native.Mathlib.Numerals.{add-one}
-use mathlib.Core.Bool.{Bool, true, false, _&&_, cond}
+use mathlib.Core.Bool.{Bool, _&&_, cond}
 use mathlib.Core.Logic.{_⊎_, inl, inr}
-use mathlib.Core.Option.{Option, none, some}
-use mathlib.Core.List.{List, [], _∷_, _++_}
+use mathlib.Core.Option.{none, some}
+use mathlib.Core.List.{List, [], _∷_}
 use lib.ListN.{length, drop, getD}
 use lib.Dec.{leb, ltb}
 use borrow.Author.Tests.{lt-ltb, le-ltb, le-leb, lt-leb}
@@ -14,7 +13,7 @@ use Rattle.basis.specs.Numbers.{numberAt}
 use Rattle.basis.specs.Sizes.{bitsWidth}
 use Rattle.model.specs.Value.{Value, value}
 use Rattle.model.specs.Statement.{Field, actual, formal, reference, sum, difference, anonymous}
-use Rattle.model.specs.Reading.{Reader, _>>=_, give, refuse, byte, natural, chosenBy, fieldValue, actualField, formalField, referenceField, sumField, anonymousField, field}
+use Rattle.model.specs.Reading.{Reader, _>>=_, refuse, byte, chosenBy, fieldValue, actualField, formalField, referenceField, sumField, anonymousField, field}
 use Rattle.statements.specs.At.{which, readAt, found, found-some, found-none, some-readAt, none-readAt}
 use Rattle.statements.specs.Fixed.{Fixed, fixed-byte, fixed-last, fixed-then, fixed-as, fixed-value}
 

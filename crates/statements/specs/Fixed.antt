@@ -1,20 +1,18 @@
 -- Readers of a fixed number of bytes, at a position. Assumes nothing.
-use mathlib.Core.Path.{_≡_, refl, sym, ap, _∙_}
-use Prim.Native.Nat.{ℕ, zero, suc, _+_, _-_, _≤_, _<_}
+use mathlib.Core.Path.{_≡_}
+use Prim.Native.Nat.{ℕ, _+_, _≤_, _<_}
 use native.Mathlib.Omega.{arith}
 use native.Mathlib.Numerals.{add-one}
-use mathlib.Core.Bool.{Bool, true, false, cond}
 use mathlib.Core.Logic.{_⊎_, inl, inr}
-use mathlib.Core.Option.{Option, none, some}
-use mathlib.Core.List.{List, [], _∷_, _++_}
+use mathlib.Core.Option.{none, some}
+use mathlib.Core.List.{List}
 use lib.ListN.{length, drop, getD, length-drop, drop-of-length-le}
 use lib.Seq.{drop-drop, drop-cons}
-use lib.Dec.{leb}
 use borrow.Author.Tests.{le-leb, lt-leb}
 use Rattle.basis.specs.Choice.{maybe, provided}
 use Rattle.basis.specs.Numbers.{numberAt}
 use Rattle.basis.specs.Sizes.{bitsWidth}
-use Rattle.model.specs.Value.{Value, value}
+use Rattle.model.specs.Value.{value}
 use Rattle.model.specs.Reading.{Reader, _>>=_, give, byte, natural, fieldValue}
 use Rattle.statements.specs.At.{which}
 

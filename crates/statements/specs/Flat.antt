@@ -1,13 +1,12 @@
 -- What the flat structs are: a field by its form, an operation by its code, with its first `count` fields. Assumes nothing.
 use mathlib.Core.Path.{_≡_, _∙_}
-use Prim.Native.Nat.{ℕ, zero, suc, _+_, _≤_}
+use Prim.Native.Nat.{ℕ, _≤_}
 use mathlib.Core.Bool.{Bool, true, false}
-use mathlib.Core.Option.{Option, none, some}
+use mathlib.Core.Option.{Option}
 use mathlib.Core.List.{List, [], _∷_, map}
 use lib.ListN.{length, take, getD}
 use lib.Dec.{leb}
-use Rattle.basis.specs.Numbers.{numberAt}
-use Rattle.basis.specs.Sizes.{bitsWidth, mostFields}
+use Rattle.basis.specs.Sizes.{mostFields}
 use Rattle.model.specs.Value.{value}
 use Rattle.model.specs.Statement as model
 use Rattle.model.specs.Statement.{actual, formal, reference, sum, difference, anonymous, always, lookup, deposit, transfer}

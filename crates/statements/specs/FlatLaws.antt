@@ -1,15 +1,11 @@
 -- The parts read at a position are those of the field there. Assumes nothing.
-use mathlib.Core.Path.{_≡_, refl, sym, ap, _∙_}
-use Prim.Native.Nat.{ℕ, zero, suc, _+_, _-_, _≤_, _<_}
+use mathlib.Core.Path.{_≡_, refl}
+use Prim.Native.Nat.{ℕ, zero, suc, _+_, _≤_, _<_}
 use native.Mathlib.Omega.{arith}
-use mathlib.Core.Bool.{Bool, true, false}
-use mathlib.Core.Option.{Option, none, some}
-use mathlib.Core.List.{List, [], _∷_, _++_}
-use lib.ListN.{length, getD, List·getD-eq-default}
+use mathlib.Core.List.{List}
+use lib.ListN.{getD}
 use Rattle.basis.specs.Numbers.{numberAt}
 use Rattle.basis.specs.Sizes.{bitsWidth}
-use Rattle.model.specs.Value.{value}
-use Rattle.model.specs.Statement.{Field, actual, formal, reference, sum, difference, anonymous}
 use Rattle.statements.specs.Fields.{fieldAfter, fieldParts}
 use Rattle.statements.specs.Flat.{fieldOf}
 

@@ -9,7 +9,7 @@ use mathlib.Core.List.{List, [], _∷_, map}
 use lib.ListN.{length, take, drop, getD, set, replicate, List·getD-map, List·getD-eq-default, length-map, drop-of-length-le}
 use lib.Dec.{T, leb, ltb, eqb, ltb→lt}
 use lib.Seq.{drop-cons, length-take-le, getD-take}
-use borrow.Author.Tests.{lt-ltb, le-ltb, le-leb, lt-leb, eq-eqb, ne-eqb, ltb-true}
+use borrow.Author.Tests.{lt-ltb, le-ltb, le-leb, eq-eqb, ne-eqb, ltb-true}
 use Rattle.basis.specs.Choice.{maybe, isSome, provided}
 use Rattle.basis.specs.Logic.{and-l, and-r, true-is}
 use Rattle.basis.specs.Lists.{any, isIn}

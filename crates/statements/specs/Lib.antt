@@ -7,3 +7,4 @@ pub mod Several
 pub mod Operations
 pub mod Kinds
 pub mod Walk
+pub mod Legal

@@ -2,34 +2,27 @@
 use mathlib.Core.Path.{_≡_, refl, sym, ap, _∙_}
 use Prim.Native.Nat.{ℕ, zero, suc, _+_, _-_, _≤_, _<_}
 use native.Mathlib.Omega.{arith}
-use native.Mathlib.Numerals.{add-one}
 use mathlib.Core.Bool.{Bool, true, false, cond}
 use mathlib.Core.Logic.{_⊎_, inl, inr}
 use mathlib.Core.Option.{Option, none, some, Option·some-injective, Option·none-ne-some}
-use mathlib.Core.List.{List, [], _∷_, _++_}
-use lib.ListN.{length, take, drop, getD, length-drop, List·getD-eq-default}
-use lib.Seq.{take-suc, drop-cons}
+use mathlib.Core.List.{List, [], _∷_}
+use lib.ListN.{length, take, drop, getD, List·getD-eq-default}
 use lib.Dec.{leb}
 use borrow.Author.Tests.{le-leb, lt-leb}
 use Rattle.basis.specs.Choice.{maybe, provided}
 use Rattle.basis.specs.Numbers.{numberAt, number}
-use Rattle.basis.specs.NumberLaws.{number-one}
+use Rattle.words.specs.WordLaws.{numberAt-1}
 use Rattle.basis.specs.Sizes.{spaceWidth, mostFields}
 use Rattle.model.specs.Statement as model
 use Rattle.model.specs.Statement.{always, lookup, deposit, transfer}
 use Rattle.model.specs.Legal.{fieldsOf}
 use Rattle.model.specs.Reading.{Reader, _>>=_, give, refuse, byte, natural, several, counted, chosenBy, field, onSpace, onSpaces, operation}
 use Rattle.model.specs.ReadBack.{several-length}
-use Rattle.statements.specs.At.{which, Suffix, suffix-give, suffix-refuse, suffix-byte, suffix-then, suffix-last, suffix-counted, suffix-several, placed, readAt, passed, found, found-some, found-none, ReadAt, readAt-some, readAt-none, some-readAt, none-readAt}
-use Rattle.statements.specs.Fixed.{Fixed, fixed-byte, fixed-natural}
+use Rattle.statements.specs.At.{which, Suffix, suffix-give, suffix-refuse, suffix-byte, suffix-then, suffix-last, suffix-counted, placed, readAt, passed, found, some-readAt}
+use Rattle.statements.specs.Fixed.{fixed-byte, fixed-natural}
 use Rattle.statements.specs.Several.{suffix-field}
 use Rattle.statements.specs.Flat.{fieldsAre, fieldsRead, operationOf, fewFields, operationAt}
 use Rattle.statements.specs.declared.FieldsRead.{FieldsRead}
-
--- the byte at a position is the number of one byte there
-pub one-byte : (b : List ℕ) (at : ℕ) → at < length b → numberAt at spaceWidth b ≡ getD b at 0
-unfolding numberAt
-one-byte b at h = rw (drop-cons b at 0 h) (number-one (getD b at 0))
 
 -- ---- what is left is a last part
 
@@ -149,7 +142,7 @@ fields-few code from to b at count r c h e m k = rw (fields-from (operationOf co
 pub space-there : (made : ℕ → List model.Field → model.Operation) (b : List ℕ) (at : ℕ) → at + 2 ≤ length b
     → readAt (onSpace made) b at ≡ readAt (fieldsMade (made (getD b at 0))) b (at + 1)
 unfolding onSpace _>>=_ readAt
-space-there made b at h = rw (fixed-natural spaceWidth (omega arith) .enough b at (omega arith), one-byte b at (omega arith))
+space-there made b at h = rw (fixed-natural spaceWidth (omega arith) .enough b at (omega arith), numberAt-1 at b (omega arith))
 
 pub space-short : (made : ℕ → List model.Field → model.Operation) (b : List ℕ) (at : ℕ) → length b < at + 2 → readAt (onSpace made) b at ≡ none
 unfolding onSpace _>>=_ counted readAt
@@ -168,7 +161,7 @@ pub spaces-there : (made : ℕ → ℕ → List model.Field → model.Operation)
 unfolding onSpaces _>>=_ readAt
 spaces-there made b at h =
     let e : at + 1 + 1 ≡ at + 2 = omega arith in
-    rw (fixed-natural spaceWidth (omega arith) .enough b at (omega arith), fixed-natural spaceWidth (omega arith) .enough b (at + 1) (omega arith), one-byte b at (omega arith), one-byte b (at + 1) (omega arith), e)
+    rw (fixed-natural spaceWidth (omega arith) .enough b at (omega arith), fixed-natural spaceWidth (omega arith) .enough b (at + 1) (omega arith), numberAt-1 at b (omega arith), numberAt-1 (at + 1) b (omega arith), e)
 
 pub spaces-short : (made : ℕ → ℕ → List model.Field → model.Operation) (b : List ℕ) (at : ℕ) → length b < at + 3 → readAt (onSpaces made) b at ≡ none
 unfolding onSpaces _>>=_ readAt

@@ -1,21 +1,20 @@
 -- Several things one after the other: what is read so far, then the rest. Assumes nothing.
 use mathlib.Core.Path.{_≡_, refl, sym, ap, _∙_}
-use Prim.Native.Nat.{ℕ, zero, suc, _+_, _-_, _≤_, _<_}
+use Prim.Native.Nat.{ℕ, suc, _+_, _-_, _≤_, _<_}
 use native.Mathlib.Omega.{arith}
 use native.Mathlib.Numerals.{add-one}
 use mathlib.Core.Option.{Option, none, some, Option·some-injective, Option·none-ne-some}
-use mathlib.Core.List.{List, [], _∷_, _++_, map, map-append, append-assoc, append-nil}
+use mathlib.Core.List.{List, [], _∷_, _++_, map-append, append-assoc, append-nil}
 use lib.ListN.{length, take, drop, set, getD, length-set}
 use lib.Seq.{take-suc-set}
 use Rattle.basis.specs.Choice.{maybe}
 use Rattle.model.specs.Statement as model
 use Rattle.model.specs.Reading.{Reader, _>>=_, give, several, field}
-use Rattle.statements.specs.At.{Suffix, readAt, found, found-some, found-none, ReadAt, readAt-some, readAt-none, some-readAt, none-readAt}
-use Rattle.statements.specs.Fields.{Ends, FieldAt, absent, present, field-at, field-there, widthOf}
+use Rattle.statements.specs.At.{Suffix, readAt, found-some, found-none, readAt-some, readAt-none, some-readAt, none-readAt}
+use Rattle.statements.specs.Fields.{FieldAt, absent, present, field-at, field-there, widthOf}
 use Rattle.statements.specs.Flat.{fieldIs, fieldsAre, fieldRead, fieldsRead}
 use Rattle.statements.specs.declared.Field.{Field}
 use Rattle.statements.specs.declared.FieldRead.{FieldRead}
-use Rattle.statements.specs.declared.FieldsRead.{FieldsRead}
 
 -- what was read before, and what is read now
 unfoldable pub prepend : {A : Type 0} → List A → Option (List A × List ℕ) → Option (List A × List ℕ)

@@ -2,14 +2,13 @@
 use mathlib.Core.Path.{_≡_, refl, sym, ap, _∙_}
 use Prim.Native.Nat.{ℕ, zero, suc, _+_, _-_, _%_, _≤_, _<_}
 use native.Mathlib.Omega.{arith}
-use native.Mathlib.Numerals.{add-one}
-use mathlib.Core.Bool.{Bool, true, false, not, _&&_, cond, true≢false}
+use mathlib.Core.Bool.{Bool, true, false, _&&_, cond, true≢false}
 use mathlib.Core.Logic.{_⊎_, inl, inr}
 use mathlib.Core.Option.{Option, none, some, Option·some-injective, Option·none-ne-some}
-use mathlib.Core.List.{List, [], _∷_, _++_}
-use lib.ListN.{length, take, drop, getD, length-drop, drop-of-length-le, List·getD-eq-default}
+use mathlib.Core.List.{List, [], _∷_}
+use lib.ListN.{length, take, drop, getD, length-drop, List·getD-eq-default}
 use lib.Dec.{T, leb, ltb, eqb}
-use borrow.Author.Tests.{lt-ltb, le-ltb, le-leb, lt-leb, eq-eqb, ne-eqb, leb-true}
+use borrow.Author.Tests.{lt-ltb, le-ltb, le-leb, lt-leb, eq-eqb, ne-eqb}
 use Rattle.basis.specs.Choice.{maybe, isSome, provided}
 use Rattle.basis.specs.Logic.{and-l, and-r, both, is-true, true-is}
 use Rattle.basis.specs.Lists.{all, isEmpty}
@@ -18,10 +17,10 @@ use Rattle.words.specs.WordLaws.{numberAt-1, numberAt-2}
 use Rattle.basis.specs.Sizes.{mostFields, mostOperations, mostBranches, mostBody, hosts, processes, hostWidth, processWidth}
 use Rattle.model.specs.Statement.{Field, Operation, always, lookup, deposit, transfer, Branch, operations, Statement}
 use Rattle.model.specs.Legal.{Kinds, noKinds, bindKinds, legalFields, fieldsOf, fieldCount, isSpace, legalOperation, legalOperations, isGuard, isBodyOperation, legalBranch, legalStatement, parse, legalBody}
-use Rattle.model.specs.Reading.{Reader, _>>=_, give, byte, natural, several, counted, wholeOf, operation, branch, statement}
-use Rattle.model.specs.ReadBack.{several-length}
-use Rattle.statements.specs.At.{which, placed, readAt, passed, ended, found, found-some, found-none, position, readAt-some, Suffix, suffix-at, suffix-last, suffix-then, suffix-counted, suffix-several}
-use Rattle.statements.specs.Fixed.{Fixed, fixed-byte, fixed-natural}
+use Rattle.model.specs.Reading.{Reader, _>>=_, give, byte, several, counted, wholeOf, operation, branch, statement}
+use Rattle.model.specs.ReadBack.{several-length, Parsed, parse-some}
+use Rattle.statements.specs.At.{which, placed, readAt, passed, ended, found, found-some, found-none, position, readAt-some, Suffix, suffix-at, suffix-last, suffix-then, suffix-counted}
+use Rattle.statements.specs.Fixed.{fixed-byte, fixed-natural}
 use Rattle.statements.specs.Flat.{fieldsAre, operationOf, operationIs, readIs, fewFields, operationAt}
 use Rattle.statements.specs.Operations.{suffix-operation}
 use Rattle.statements.specs.Kinds.{kindsAre, boundIs, operationStep}
@@ -610,3 +609,179 @@ branching-done b count at i h w =
     let m : count - i ≡ 0 = omega arith in
     let z : endAt (several branch count) (all legalBranch) b 4 ≡ some at = w .rest ∙ rw m (ends-done branch (all legalBranch) b at refl (w .within)) in
     rw z
+
+-- ---- where a branch ends, whether it is legal or not
+
+-- no operation of a branch has more fields than a tuple has values
+unfoldable pub fewIn : Branch → Bool
+fewIn br = all fewFields (operations br)
+
+-- the operations of a body, with their count before them
+unfoldable pub countedEnd : List ℕ → ℕ → Option ℕ
+countedEnd b at = cond (ltb at (length b)) (endAt (several operation (getD b at 0)) (all fewFields) b (at + 1)) none
+
+after-guard : (g : Operation) (b : List ℕ) (at : ℕ) → endOf fewIn b (withBody g (counted operation (drop at b))) ≡ cond (fewFields g) (countedEnd b at) none
+unfolding countedEnd withBody fewIn operations all provided
+after-guard g b at = past (which (at + 1) (length b))
+  where
+    neither : (t : Bool) → _≡_ {A = Option ℕ} none (cond t none none)
+    neither true = refl
+    neither false = refl
+
+    test : (t u : Bool) (n : ℕ) → cond (t && u) (some n) none ≡ cond t (cond u (some n) none) none
+    test true u n = refl
+    test false u n = refl
+
+    bodies : (o : Option (List Operation × List ℕ)) → endOf fewIn b (withBody g o) ≡ cond (fewFields g) (endOf (all fewFields) b o) none
+    bodies none = neither (fewFields g)
+    bodies (some r) = test (fewFields g) (all fewFields (r .0)) (length b - length (r .1))
+
+    past : (at + 1 ≤ length b) ⊎ (length b < at + 1) → endOf fewIn b (withBody g (counted operation (drop at b))) ≡ cond (fewFields g) (countedEnd b at) none
+    past (inl l) =
+        rw (counted-one b at l, lt-ltb at (length b) (omega arith), end-of (several operation (getD b at 0)) (all fewFields) b (at + 1))
+        (bodies (several operation (getD b at 0) (drop (at + 1) b)))
+    past (inr l) = rw (counted-no b at l, le-ltb at (length b) (omega arith)) (neither (fewFields g))
+
+-- a branch ends where its body does, after its guard
+pub few-end : (b : List ℕ) (at : ℕ) → endAt branch fewIn b at ≡ maybe (operationAt b at) none (λ r. countedEnd b (r .1))
+unfolding operationAt passed readAt provided
+few-end b at = end-of branch fewIn b at ∙ go (operation (drop at b)) refl
+  where
+    test : (t : Bool) (x : Operation × ℕ) → cond t (countedEnd b (x .1)) none ≡ maybe {B = Option ℕ} (cond t (some x) none) none (λ r. countedEnd b (r .1))
+    test true x = refl
+    test false x = refl
+
+    go : (o : Option (Operation × List ℕ)) → operation (drop at b) ≡ o → endOf fewIn b (branch (drop at b)) ≡ maybe {B = Option ℕ} (passed fewFields (placed b o)) none (λ r. countedEnd b (r .1))
+    go none q = rw (branch-no (drop at b) q)
+    go (some r) q =
+        rw (branch-one (drop at b) (r .1) (r .0) q)
+        (ap (λ (s : List ℕ). endOf fewIn b (withBody (r .0) (counted operation s))) (sym (suffix-at operation suffix-operation b at (r .0) (r .1) q))
+        ∙ after-guard (r .0) b (length b - length (r .1)) ∙ test (fewFields (r .0)) (r .0, length b - length (r .1)))
+
+-- one operation, then the rest
+few-turn : (m : ℕ) (b : List ℕ) (at : ℕ) → endAt (several operation (suc m)) (all fewFields) b at ≡ maybe (ended (operationAt b at)) none (λ end. endAt (several operation m) (all fewFields) b end)
+unfolding operationAt endAt
+few-turn m b at = ends-turn operation suffix-operation fewFields m b at
+
+-- i of so many operations are read, and the rest decides
+pub record Reading (b : List ℕ) (at count end i : ℕ) : Type 0 where
+  pub few : i ≤ count
+  pub past : 0 < end
+  pub within : end ≤ length b
+  pub rest : endAt (several operation count) (all fewFields) b at ≡ endAt (several operation (count - i)) (all fewFields) b end
+
+pub reading-start : (b : List ℕ) (at count : ℕ) → 0 < at → at ≤ length b → Reading b at count at 0
+reading-start b at count h l = let e : count - 0 ≡ count = omega arith in record { few = omega arith; past = h; within = l; rest = rw e }
+
+operation-there : (b : List ℕ) (at : ℕ) (r : OperationRead) → readIs r ≡ operationAt b at → (r .end ≡ 0 → ⊥) → ended (operationAt b at) ≡ some (r .end)
+unfolding readIs ended
+operation-there b at r e n = let s : operationAt b at ≡ some (operationIs (r .operation), r .end) = sym e ∙ found-some (r .end) (operationIs (r .operation)) (omega (arith, n)) in rw s
+
+operation-absent : (b : List ℕ) (at : ℕ) (r : OperationRead) → readIs r ≡ operationAt b at → r .end ≡ 0 → operationAt b at ≡ none
+unfolding readIs
+operation-absent b at r e n = sym e ∙ found-none (r .end) (operationIs (r .operation)) n
+
+pub reading-turn : (b : List ℕ) (at count end i : ℕ) (r : OperationRead) → i < count → Reading b at count end i → readIs r ≡ operationAt b end → (r .end ≡ 0 → ⊥) → Reading b at count (r .end) (i + 1)
+reading-turn b at count end i r h w e n =
+    let s = operation-there b end r e n in
+    let m : count - i ≡ suc (count - (i + 1)) = omega arith in
+    record {
+      few = omega arith;
+      past = omega (arith, n);
+      within = end-within operation fewFields b end (r .end) (unfold operationAt endAt in s);
+      rest = w .rest ∙ rw m (few-turn (count - (i + 1)) b end ∙ rw s);
+    }
+
+pub reading-stop : (b : List ℕ) (at count end i : ℕ) (r : OperationRead) → i < count → Reading b at count end i → readIs r ≡ operationAt b end → r .end ≡ 0
+    → position 0 ≡ endAt (several operation count) (all fewFields) b at
+unfolding ended
+reading-stop b at count end i r h w e n =
+    let s = operation-absent b end r e n in
+    let m : count - i ≡ suc (count - (i + 1)) = omega arith in
+    position-none 0 refl ∙ sym (w .rest ∙ rw m (few-turn (count - (i + 1)) b end ∙ rw s))
+
+pub reading-done : (b : List ℕ) (at count end i : ℕ) → count ≤ i → Reading b at count end i → position end ≡ endAt (several operation count) (all fewFields) b at
+unfolding all
+reading-done b at count end i h w =
+    let z : count - i ≡ 0 = omega arith in
+    position-some end (w .past) ∙ sym (w .rest ∙ rw z (ends-done operation (all fewFields) b end refl (w .within)))
+
+module _ (b : List ℕ) (at : ℕ) (r : OperationRead) (h : readIs r ≡ operationAt b at) where
+  pub end-no-guard : r .end ≡ 0 → position 0 ≡ endAt branch fewIn b at
+  end-no-guard e = position-none 0 refl ∙ sym (few-end b at ∙ rw (operation-absent b at r h e))
+
+  guard-read : (r .end ≡ 0 → ⊥) → endAt branch fewIn b at ≡ countedEnd b (r .end)
+  unfolding readIs
+  guard-read n = few-end b at ∙ rw (sym h ∙ found-some (r .end) (operationIs (r .operation)) (omega (arith, n)))
+
+  pub end-no-count : (r .end ≡ 0 → ⊥) → length b ≤ r .end → position 0 ≡ endAt branch fewIn b at
+  unfolding countedEnd
+  end-no-count n l = position-none 0 refl ∙ sym (guard-read n ∙ rw (le-ltb (r .end) (length b) l))
+
+  pub end-body : (r .end ≡ 0 → ⊥) → r .end < length b → (count end : ℕ) → count ≡ getD b (r .end) 0
+      → position end ≡ endAt (several operation count) (all fewFields) b (r .end + 1) → position end ≡ endAt branch fewIn b at
+  unfolding countedEnd
+  end-body n l count end c e = e ∙ rw c (sym (guard-read n ∙ rw (lt-ltb (r .end) (length b) l)))
+
+-- ---- what a legal body has at its positions
+
+-- a legal branch has few fields in every operation
+legal-each : (ks : Kinds) (os : List Operation) → T (legalOperations ks os) → T (all fewFields os)
+unfolding legalOperations all
+legal-each ks [] t = tt
+legal-each ks (o ∷ os) t =
+    let f : T (legalOperation ks o) = and-l (legalOperation ks o) (legalOperations (bindKinds ks (fieldsOf o)) os) t in
+    let l : T (legalOperations (bindKinds ks (fieldsOf o)) os) = and-r (legalOperation ks o) (legalOperations (bindKinds ks (fieldsOf o)) os) t in
+    both (fewFields o) (all fewFields os) (true-is (fewFields o) (legal-few ks o (is-true (legalOperation ks o) f))) (legal-each (bindKinds ks (fieldsOf o)) os l)
+
+pub legal-fewIn : (br : Branch) → T (legalBranch br) → T (fewIn br)
+unfolding legalBranch fewIn
+legal-fewIn br t = legal-each noKinds (operations br) (search (and-l, and-r, t) depth 16)
+
+-- so the position after it is where its reader stops
+pub legal-end : (b : List ℕ) (at end : ℕ) (br : Branch) → branch (drop at b) ≡ some (br, drop end b) → end ≤ length b → T (legalBranch br) → endAt branch fewIn b at ≡ some end
+unfolding provided
+legal-end b at end br e h t =
+    let n : length b - length (drop end b) ≡ end = omega (arith, length-drop end b) in
+    end-of branch fewIn b at ∙ rw (e, is-true (fewIn br) (legal-fewIn br t), n)
+
+-- a legal body: host, process, branch count, and its branches to the end
+pub record BodyParts (b : List ℕ) (st : Statement) : Type 0 where
+  pub long : 4 ≤ length b
+  pub size : length b ≤ mostBody
+  pub legal : T (legalStatement st)
+  pub host : getD b 0 0 ≡ st .host
+  pub process : numberAt 1 2 b ≡ st .process
+  pub branches : several branch (getD b 3 0) (drop 4 b) ≡ some (st .branches, [])
+
+pub body-parts : (b : List ℕ) (st : Statement) → parse b ≡ some st → BodyParts b st
+unfolding wholeOf statementOf provided isEmpty
+body-parts b st e = let k = parse-some b st e in from k (which 4 (length b))
+  where
+    empty : (l : List ℕ) → T (isEmpty l) → l ≡ []
+    empty [] t = refl
+    empty (x ∷ l) t = absurd t
+
+    left : (t : Bool) (x : Statement) → cond t (some x) none ≡ some st → (t ≡ true) × (x ≡ st)
+    left true x q = (refl, Option·some-injective x st q)
+    left false x q = absurd (Option·none-ne-some st q)
+
+    here : 4 ≤ length b → Parsed b st → (o : Option (List Branch × List ℕ)) → several branch (getD b 3 0) (drop 4 b) ≡ o
+        → maybe {B = Option Statement} (statementOf (numberAt 0 1 b) (numberAt 1 2 b) o) none (λ r. provided (isEmpty (r .1)) (r .0)) ≡ some st → BodyParts b st
+    here l k none q w = absurd (Option·none-ne-some st w)
+    here l k (some r) q w =
+        let z = left (isEmpty (r .1)) (record { host = numberAt 0 1 b; process = numberAt 1 2 b; branches = r .0 }) w in
+        let none : r .1 ≡ [] = empty (r .1) (true-is (isEmpty (r .1)) (z .0)) in
+        let bs : r .0 ≡ st .branches = ap (λ (x : Statement). x .branches) (z .1) in
+        record {
+          long = l;
+          size = k .size;
+          legal = k .legal;
+          host = sym (numberAt-1 0 b (omega arith)) ∙ ap (λ (x : Statement). x .host) (z .1);
+          process = ap (λ (x : Statement). x .process) (z .1);
+          branches = q ∙ (λ i. some (bs i, none i));
+        }
+
+    from : Parsed b st → (4 ≤ length b) ⊎ (length b < 4) → BodyParts b st
+    from k (inl l) = here l k (several branch (getD b 3 0) (drop 4 b)) refl (rw (statement-one b l) at (k .whole))
+    from k (inr l) = absurd (Option·none-ne-some st (rw (statement-short b l) at (k .whole)))

@@ -18,7 +18,7 @@ ghost use Rattle.basis.specs.Sizes.{variables};
 ghost use Rattle.model.specs.Value.{value, isKind};
 ghost use Rattle.model.specs.Legal.{kindIn, summable, legalField, bindKind, legalBranch, legalBody};
 ghost use Rattle.statements.specs.Kinds.{kindIs, kindsAre, boundIs, allows, allowedBy, stepped, judged, headLegal, operationStep};
-ghost use Rattle.statements.specs.Walk.{endAt, endsAt, headOk, bodyLegal, placeBy, stepIs, stepAt};
+ghost use Rattle.statements.specs.Walk.{endAt, endsAt, fewIn, headOk, bodyLegal, placeBy, stepIs, stepAt};
 use values::legal_value;
 use words::HOSTS;
 use words::MOST_BODY;
@@ -579,4 +579,40 @@ pub fn body_ok(b: &[u8]) -> bool
         return false;
     }
     branches_ok(b, size(b[COUNT_AT]))
+}
+
+// ---- from position to position
+
+// The position after so many operations from a position on; 0: there are not so many.
+fn operations_end(b: &[u8], at: usize, count: usize) -> usize
+    requires { ⌜ (0 < at) × (at ≤ length (now b)) ⌝ }
+    ensures { λ r. ⌜ position r ≡ endAt (several operation count) (all fewFields) (now (b .entry)) at ⌝ }
+{
+    let mut end = at;
+    let mut i: usize = 0;
+    while i < count {
+        let r = read_operation(b, end);
+        let next = r.end;
+        if next == 0 {
+            return 0;
+        }
+        end = next;
+        i += 1;
+    }
+    end
+}
+
+// The position after the branch at a position; 0: there is none.
+pub fn branch_end(b: &[u8], at: usize) -> usize
+    ensures { λ r. ⌜ position r ≡ endAt branch fewIn (now (b .entry)) at ⌝ }
+{
+    let g = read_operation(b, at);
+    let end = g.end;
+    if end == 0 {
+        return 0;
+    }
+    if b.len() <= end {
+        return 0;
+    }
+    operations_end(b, end + 1, size(b[end]))
 }

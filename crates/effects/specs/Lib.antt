@@ -1,0 +1,2 @@
+pub mod Effected
+pub mod EffectLaws

@@ -1,0 +1,73 @@
+// The effect of each record but AG that no check refuses, with its reply.
+ghost use mathlib.Core.Path.{_≡_};
+ghost use mathlib.Core.Bool.{true, false, not, _||_};
+ghost use Prim.Native.Nat.{_+_, _≤_, _<_};
+ghost use lib.ListN.{length};
+ghost use lib.Dec.{T, leb, eqb};
+ghost use Rattle.basis.specs.Numbers.{count};
+ghost use Rattle.basis.specs.Sizes.{hosts, mostSpaces, mostTuples, spaceNumbers};
+ghost use Rattle.model.specs.Run.{hostUp, monitorsUsedUp};
+ghost use Rattle.model.specs.Step.{recover, crash, monitor, openSpace, closeSpace, failureTuples, someWaitingNames, inVariable0, effect};
+ghost use Rattle.layout.specs.States.{decode};
+ghost use Rattle.replies.specs.Written.{headSize, valueSize, reply, Wrote};
+ghost use Rattle.records.specs.Stored.{Said};
+ghost use Rattle.effects.specs.Effected.{Effected};
+
+// "CR and RV the count of hosts now up", "replies show process 0".
+fn answer_up(state: &[u8], out: &mut [u8], host: u8) -> usize
+    requires { ⌜ Said (now state) × (headSize + valueSize ≤ length (now out)) ⌝ }
+    ensures { λ r. ⌜ Wrote (reply ((decode (now (state .entry))) .last) host 0 0 0 (inVariable0 (count ((decode (now (state .entry))) .up)))) (now (out .entry)) (now (out .exit)) r ⌝ }
+{
+    let up = values::hosts_up(words::word2(state, words::MASK_AT));
+    replies::number_reply(out, words::word4(state, words::LAST_AT), host, 0, up)
+}
+
+// RV: "the host is up".
+pub fn take_recover(state: &mut [u8], out: &mut [u8], host: u8) -> usize
+    requires { ⌜ Said (now state) × (host < hosts) × (hostUp (decode (now state)) host ≡ false) × (headSize + valueSize ≤ length (now out)) ⌝ }
+    ensures { λ r. ⌜ Effected (effect (decode (now (state .entry))) (recover host)) (now (state .exit)) (now (out .entry)) (now (out .exit)) r ⌝ }
+{
+    records::recover(state, host);
+    answer_up(state, out, host)
+}
+
+// CR: "it has crashed".
+pub fn take_crash(state: &mut [u8], out: &mut [u8], host: u8) -> usize
+    requires { ⌜ Said (now state) × (host < hosts) × (hostUp (decode (now state)) host ≡ true)
+        × (length ((decode (now state)) .tuples) + length (failureTuples (decode (now state)) host) ≤ mostTuples) × (headSize + valueSize ≤ length (now out)) ⌝ }
+    ensures { λ r. ⌜ Effected (effect (decode (now (state .entry))) (crash host)) (now (state .exit)) (now (out .entry)) (now (out .exit)) r ⌝ }
+{
+    records::crash(state, host);
+    answer_up(state, out, host)
+}
+
+// MO: "a new monitor number".
+pub fn take_monitor(state: &mut [u8], out: &mut [u8], host: u8, process: u16) -> usize
+    requires { ⌜ Said (now state) × T (not (monitorsUsedUp (decode (now state)))) × (headSize + valueSize ≤ length (now out)) ⌝ }
+    ensures { λ r. ⌜ Effected (effect (decode (now (state .entry))) (monitor host process)) (now (state .exit)) (now (out .entry)) (now (out .exit)) r ⌝ }
+{
+    let n = records::monitor(state);
+    let last = words::word4(state, words::LAST_AT);
+    replies::number_reply(out, last, host, process, n as u32)
+}
+
+// MS: "opens the next space number".
+pub fn take_open(state: &mut [u8], out: &mut [u8], host: u8, process: u16, owned: bool) -> usize
+    requires { ⌜ Said (now state) × T (not (leb mostSpaces (length ((decode (now state)) .spaces)) || leb spaceNumbers ((decode (now state)) .next)))
+        × (headSize + valueSize ≤ length (now out)) ⌝ }
+    ensures { λ r. ⌜ Effected (effect (decode (now (state .entry))) (openSpace host process owned)) (now (state .exit)) (now (out .entry)) (now (out .exit)) r ⌝ }
+{
+    let n = records::open_space(state, process, owned);
+    let last = words::word4(state, words::LAST_AT);
+    replies::number_reply(out, last, host, process, n as u32)
+}
+
+// DS: "closes a space, with its tuples".
+pub fn take_close(state: &mut [u8], out: &mut [u8], host: u8, process: u16, space: u8) -> usize
+    requires { ⌜ Said (now state) × T (not (eqb space 0 || someWaitingNames (decode (now state)) space)) × (headSize ≤ length (now out)) ⌝ }
+    ensures { λ r. ⌜ Effected (effect (decode (now (state .entry))) (closeSpace host process space)) (now (state .exit)) (now (out .entry)) (now (out .exit)) r ⌝ }
+{
+    records::close_space(state, space);
+    let last = words::word4(state, words::LAST_AT);
+    replies::plain_reply(out, last, host, process, 0)
+}
