@@ -5,3 +5,8 @@ pub mod Binding
 pub mod Making
 pub mod Performing
 pub mod Codes
+pub mod Legality
+pub mod Ahead
+pub mod Branches
+pub mod Searching
+pub mod Attempting

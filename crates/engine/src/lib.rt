@@ -2,16 +2,18 @@
 ghost use mathlib.Core.Path.{_≡_};
 ghost use mathlib.Core.Bool.{true};
 ghost use Prim.Native.Nat.{_+_, _*_, _<_, _≤_};
-ghost use lib.ListN.{length};
-ghost use Rattle.basis.specs.Sizes.{mostFields, spaceNumbers, valueSize, tupleSize};
+ghost use lib.ListN.{length, drop};
+ghost use lib.Dec.{T};
+ghost use Rattle.basis.specs.Sizes.{mostBody, mostFields, mostTuples, tuplesSize, spaceNumbers, valueSize, tupleSize};
 ghost use Rattle.basis.specs.Choice.{provided};
 ghost use Rattle.basis.specs.ListLaws.{Each};
 ghost use Rattle.model.specs.Value.{value};
 ghost use Rattle.model.specs.Writing.{valueBytes};
 ghost use Rattle.words.specs.Over.{over};
-ghost use Rattle.model.specs.Statement.{deposit, transfer};
-ghost use Rattle.model.specs.Matching.{valueOf, bindField, bind};
-ghost use Rattle.model.specs.Execution.{made, perform};
+ghost use Rattle.model.specs.Statement.{deposit, transfer, operations};
+ghost use Rattle.model.specs.Matching.{valueOf, unbound, bindField, bind};
+ghost use Rattle.model.specs.Execution.{made, perform, performAll, ready, chosen, canWait, attempt};
+ghost use Rattle.model.specs.Legal.{legalBody};
 ghost use Rattle.values.specs.Meaning.{sumOf};
 ghost use Rattle.statements.specs.Flat.{fieldIs, operationIs};
 ghost use Rattle.tuples.specs.Section.{tupleAt, tuplesOf, Section};
@@ -21,17 +23,33 @@ ghost use Rattle.engine.specs.Fields.{fieldsIn};
 ghost use Rattle.engine.specs.Making.{givenIs, Summable, CanMake, madeBytes};
 ghost use Rattle.engine.specs.Performing.{Leaves, lookUp, CanDeposit};
 ghost use Rattle.engine.specs.Codes.{CanPerform};
+ghost use Rattle.engine.specs.Ahead.{operationsAt, Ahead};
+ghost use Rattle.engine.specs.Branches.{leftAt, Stand, statementIn};
+ghost use Rattle.engine.specs.Attempting.{Attempted};
+ghost use Rattle.engine.specs.Searching.{branchAt, Chosen, Chooses};
 use statements::Field;
 use statements::Operation;
+use statements::read_operation;
 use tuples::Found;
 use tuples::Template;
 use values::Sum;
 
+// Where the branch count of a body and its first branch stand, after host and process.
+const BRANCH_COUNT_AT: usize = 3;
+
+const BRANCHES_AT: usize = 4;
+
+// Where the values of a tuple stand in its entry, after space and field count.
+const VALUES_AT: usize = 2;
+
+// The section of tuples.
+const TUPLES: usize = words::MOST_TUPLES * words::TUPLE;
+
 // The variables of a branch: those that are bound, with kind and bits of their values.
 pub struct Vars {
-    pub bound: [bool; 16],
-    pub kinds: [u8; 16],
-    pub bits: [u32; 16],
+    pub bound: [bool; words::VARIABLES],
+    pub kinds: [u8; words::VARIABLES],
+    pub bits: [u32; words::VARIABLES],
 }
 
 // A kind and, where one is given, the bits of a value.
@@ -88,9 +106,9 @@ fn template_of(op: Operation, v: Vars) -> Template
     requires { ⌜ op .count ≤ mostFields ⌝ }
     ensures { λ r. ⌜ AsksFor (bindingsOf v) (op .from) (fieldsIn op) r ⌝ }
 {
-    let mut kinds = [0u8; 6];
-    let mut given = [false; 6];
-    let mut bits = [0u32; 6];
+    let mut kinds = [0u8; words::MOST_FIELDS];
+    let mut given = [false; words::MOST_FIELDS];
+    let mut bits = [0u32; words::MOST_FIELDS];
     let n = op.count;
     let mut i = 0;
     while i < n {
@@ -134,7 +152,7 @@ fn bind_at(tuples: &[u8], i: usize, op: Operation, v: Vars) -> Vars
     let n = op.count;
     let mut j = 0;
     while j < n {
-        let at = i * words::TUPLE + 2 + j * words::VALUE;
+        let at = i * words::TUPLE + VALUES_AT + j * words::VALUE;
         w = bind_field(w, op.fields[j], tuples[at], words::word4(tuples, at + 1));
         j += 1;
     }
@@ -196,7 +214,7 @@ fn put_value(d: &mut [u8], at: usize, kind: u8, bits: u32)
 // An out's tuple, where it can be made: its entry's bytes.
 pub struct Made {
     pub ok: bool,
-    pub tuple: [u8; 32],
+    pub tuple: [u8; words::TUPLE],
 }
 
 // Rules 3 and 4: the tuple of an out.
@@ -205,7 +223,7 @@ fn make_tuple(op: Operation, v: Vars) -> Made
     ensures { λ r. ⌜ provided (r .ok) (r .tuple) ≡ madeBytes (bindingsOf v) (op .from) (fieldsIn op) ⌝ }
 {
     let n = op.count;
-    let mut tuple = [0u8; 32];
+    let mut tuple = [0u8; words::TUPLE];
     tuple[0] = op.from as u8;
     tuple[1] = n as u8;
     let mut j = 0;
@@ -214,7 +232,7 @@ fn make_tuple(op: Operation, v: Vars) -> Made
         if !x.given {
             return Made { ok: false, tuple };
         }
-        put_value(&mut tuple, 2 + j * words::VALUE, x.kind, x.bits);
+        put_value(&mut tuple, VALUES_AT + j * words::VALUE, x.kind, x.bits);
         j += 1;
     }
     Made { ok: true, tuple }
@@ -332,5 +350,195 @@ fn perform(tuples: &mut [u8], n: usize, op: Operation, v: Vars) -> Done
         5 => deposit(tuples, n, op, v),
         6 => transfer(tuples, n, op, v, true),
         _ => transfer(tuples, n, op, v, false),
+    }
+}
+
+// Rule 3: "The body runs in order": so many operations from a position on; the first to fail decides.
+fn run_operations(
+    tuples: &mut [u8],
+    n: usize,
+    body: &[u8],
+    at: usize,
+    count: usize,
+    v: Vars,
+) -> Done
+    requires { ⌜ Section (now tuples) n × Ahead (now body) at count (bindingsOf v) ⌝ }
+    ensures { λ r. ⌜ Leaves (performAll (operationsAt (now (body .entry)) at count) (bindingsOf v) (tuplesOf (now (tuples .entry)) n)) (r .outcome) (r .n) (r .vars) (now (tuples .exit)) ⌝ }
+{
+    let mut m = n;
+    let mut w = v;
+    let mut next = at;
+    let mut left = count;
+    while 0 < left {
+        let r = read_operation(body, next);
+        let op = r.operation;
+        let d = perform(tuples, m, op, w);
+        if d.outcome != 0 {
+            return d;
+        }
+        m = d.n;
+        w = d.vars;
+        next = r.end;
+        left -= 1;
+    }
+    Done {
+        outcome: 0,
+        n: m,
+        vars: w,
+    }
+}
+
+// The position after so many operations.
+fn after_operations(body: &[u8], at: usize, count: usize) -> usize
+    requires { ⌜ Stand (now body) at count × (at ≤ length (now body)) ⌝ }
+    ensures { λ r. ⌜ (drop r (now (body .entry)) ≡ leftAt (now (body .entry)) at count) × (r ≤ length (now (body .entry))) ⌝ }
+{
+    let mut next = at;
+    let mut left = count;
+    while 0 < left {
+        next = read_operation(body, next).end;
+        left -= 1;
+    }
+    next
+}
+
+// Before a branch runs no variable is bound.
+fn no_vars() -> Vars
+    ensures { λ r. ⌜ bindingsOf r ≡ unbound ⌝ }
+{
+    Vars {
+        bound: [false; words::VARIABLES],
+        kinds: [0; words::VARIABLES],
+        bits: [0; words::VARIABLES],
+    }
+}
+
+// A branch, counted from 1, and the position of its guard; 0: none.
+pub struct Choice {
+    pub branch: u8,
+    pub at: usize,
+}
+
+// Rule 2: "The branch search stops at the first branch whose guard finds a tuple or is true".
+pub fn search(tuples: &[u8], n: usize, body: &[u8]) -> Choice
+    requires { ⌜ (length (now tuples) ≡ tuplesSize) × (n ≤ mostTuples) × T (legalBody (now body)) ⌝ }
+    ensures { λ r. ⌜ Chooses (now (body .entry)) (chosen (tuplesOf (now (tuples .entry)) n) (statementIn (now (body .entry)))) (r .branch) (r .at) ⌝ }
+{
+    let count = body[BRANCH_COUNT_AT];
+    let mut branch = 0;
+    let mut at = BRANCHES_AT;
+    let mut i = 0;
+    'branches: while i < count {
+        let guard = read_operation(body, at);
+        let op = guard.operation;
+        if op.code == 0 {
+            branch = i + 1;
+            break 'branches;
+        }
+        let template = template_of(op, no_vars());
+        let mut j = 0;
+        'tuples: while j < n {
+            if tuples::tuple_hits(tuples, j, template) {
+                branch = i + 1;
+                break 'branches;
+            }
+            j += 1;
+        }
+        let end = guard.end;
+        at = after_operations(body, end + 1, words::size(body[end]));
+        i += 1;
+    }
+    Choice { branch, at }
+}
+
+// "finds a tuple or is true": whether some guard of a statement holds.
+pub fn ready(tuples: &[u8], n: usize, body: &[u8]) -> bool
+    requires { ⌜ (length (now tuples) ≡ tuplesSize) × (n ≤ mostTuples) × T (legalBody (now body)) ⌝ }
+    ensures { λ r. ⌜ r ≡ ready (tuplesOf (now (tuples .entry)) n) (statementIn (now (body .entry))) ⌝ }
+{
+    search(tuples, n, body).branch != 0
+}
+
+// "the statement waits when some guard is in or rd".
+pub fn can_wait(body: &[u8]) -> bool
+    requires { ⌜ T (legalBody (now body)) ⌝ }
+    ensures { λ r. ⌜ r ≡ canWait (statementIn (now (body .entry))) ⌝ }
+{
+    let count = body[BRANCH_COUNT_AT];
+    let mut at = BRANCHES_AT;
+    let mut i = 0;
+    while i < count {
+        let guard = read_operation(body, at);
+        let op = guard.operation;
+        if op.code == 1 {
+            return true;
+        }
+        if op.code == 3 {
+            return true;
+        }
+        let end = guard.end;
+        at = after_operations(body, end + 1, words::size(body[end]));
+        i += 1;
+    }
+    false
+}
+
+// Rules 2 to 5 on the branch whose guard stands at a position: its guard, then its body, with no variable bound at first.
+fn run_branch(tuples: &mut [u8], n: usize, body: &[u8], at: usize) -> Done
+    requires { ⌜ Section (now tuples) n × Chosen (now body) at (branchAt (now body) at) × (length (now body) ≤ mostBody) ⌝ }
+    ensures { λ r. ⌜ Leaves (performAll (operations (branchAt (now (body .entry)) at)) unbound (tuplesOf (now (tuples .entry)) n)) (r .outcome) (r .n) (r .vars) (now (tuples .exit)) ⌝ }
+{
+    let guard = read_operation(body, at);
+    let op = guard.operation;
+    let d = perform(tuples, n, op, no_vars());
+    if d.outcome != 0 {
+        return d;
+    }
+    let end = guard.end;
+    let m = d.n;
+    let w = d.vars;
+    run_operations(tuples, m, body, end + 1, words::size(body[end]), w)
+}
+
+// What a statement did: the branch that ran, counted from 1, its outcome, and the tuples' number and the variables after it; branch 0: no guard holds.
+pub struct Ran {
+    pub branch: u8,
+    pub outcome: u8,
+    pub n: usize,
+    pub vars: Vars,
+}
+
+// Rules 2 to 5, whole or not at all: the branch runs on a copy of the tuples, which is written back where it is done.
+pub fn attempt(tuples: &mut [u8], n: usize, body: &[u8]) -> Ran
+    requires { ⌜ Section (now tuples) n × T (legalBody (now body)) ⌝ }
+    ensures { λ r. ⌜ Attempted (attempt (tuplesOf (now (tuples .entry)) n) (statementIn (now (body .entry)))) (tuplesOf (now (tuples .entry)) n) (r .branch) (r .outcome) (r .n) (r .vars) (now (tuples .exit)) ⌝ }
+{
+    let choice = search(tuples, n, body);
+    if choice.branch == 0 {
+        return Ran {
+            branch: choice.branch,
+            outcome: 0,
+            n,
+            vars: no_vars(),
+        };
+    }
+    let mut work = [0u8; TUPLES];
+    words::copy_at(&mut work, 0, tuples);
+    let d = run_branch(&mut work, n, body, choice.at);
+    let vars = d.vars;
+    if d.outcome != 0 {
+        return Ran {
+            branch: choice.branch,
+            outcome: d.outcome,
+            n,
+            vars,
+        };
+    }
+    words::copy_at(tuples, 0, &work);
+    Ran {
+        branch: choice.branch,
+        outcome: 0,
+        n: d.n,
+        vars,
     }
 }

@@ -1,27 +1,21 @@
+-- `engine::asked` meets its contract. Assumes nothing.
 use borrow.Author.Needs.{needs}
 use Rattle.engine.specs.Variables.{bindingsOf}
 use Rattle.engine.specs.Templates.{asks-actual, asks-reference, asks-other}
 use Rattle.engine.proofs.asked.Statement.{statement}
 use Rattle.engine.proofs.asked.Tie as tie
-use Rattle.engine.proofs.asked.Reads as reads
-use Rattle.engine.proofs.asked.Lts as lts
-use Rattle.engine.proofs.held.Reads as held-reads
 
--- src/lib.rt:54:9
 returns : tie.Need-returns
 returns c = asks-actual (bindingsOf (c .before .before .args .v)) (c .before .before .args .f) (c .if1 .taken)
 
--- src/lib.rt:61:9
 held-requires : tie.Need-held-requires
 held-requires c κs = search needs
 
--- src/lib.rt:61:9
 returns-2 : tie.Need-returns-2
 returns-2 c =
     let start = c .before .before .before .before .before in
     asks-reference (bindingsOf (start .args .v)) (start .args .f) (c .before .if2 .taken) (c .held .result .kind) (c .held .result .bits) (c .held .result .given) (c .held .ensures)
 
--- src/lib.rt:50:1
 returns-3 : tie.Need-returns-3
 returns-3 c = let start = c .before .before .before .before in asks-other (bindingsOf (start .args .v)) (start .args .f) (c .before .before .if1 .left) (c .if2 .left)
 

@@ -1,3 +1,4 @@
+-- `engine::bind_at` meets its contract. Assumes nothing.
 use borrow.Author.Needs.{needs}
 use mathlib.Core.Path.{_≡_, refl, sym, _∙_}
 use Prim.Native.Nat.{_+_, _*_, _-_, _≤_}
@@ -13,10 +14,6 @@ use Rattle.engine.specs.Variables.{bindingsOf}
 use Rattle.engine.specs.Binding.{bind-first, bind-turn, bind-last}
 use Rattle.engine.proofs.bind_at.Statement.{statement}
 use Rattle.engine.proofs.bind_at.Tie as tie
-use Rattle.engine.proofs.bind_at.Reads as reads
-use Rattle.engine.proofs.bind_at.Lts as lts
-use Rattle.engine.proofs.bind_field.Reads as bind-field-reads
-use Rattle.words.proofs.word4.Reads as word4-reads
 
 abbrev Inv-loop : tie.InvT-loop
 Inv-loop tuples i op w₀ n j₀ w j =
@@ -28,61 +25,47 @@ abbrev μ-loop : tie.MeasureT-loop
 few : (c : tie.Start Inv-loop μ-loop) → c .args .t3 .count ≤ length (c .args .t3 .fields)
 few c = let six : length (c .args .t3 .fields) ≡ 6 = search (needs, length-mapped) in omega (arith, c .pre .0)
 
--- src/lib.rt:124:5
 loop-holds : tie.Need-loop-holds Inv-loop μ-loop
 loop-holds c =
     let start = c .before in
     (search needs, bind-first (bindingsOf (start .args .v)) (fieldsIn (start .args .t3)) (now (start .args .tuples)) (start .args .i) (start .args .t3 .count) (start .pre .2) (start .pre .0))
 
--- src/lib.rt:125:18
 mul-at : tie.Need-mul-at Inv-loop μ-loop
 mul-at c = search needs
 
--- src/lib.rt:125:18
 add-at : tie.Need-add-at Inv-loop μ-loop
 add-at c = search needs
 
--- src/lib.rt:125:41
 mul-at-2 : tie.Need-mul-at-2 Inv-loop μ-loop
 mul-at-2 c = search needs
 
--- src/lib.rt:125:18
 add-at-2 : tie.Need-add-at-2 Inv-loop μ-loop
 add-at-2 c = search needs
 
--- src/lib.rt:126:27
 mul-bind-field : tie.Need-mul-bind-field Inv-loop μ-loop
 mul-bind-field c = search needs
 
--- src/lib.rt:126:27
 element-copy-out-bind-field : tie.Need-element-copy-out-bind-field Inv-loop μ-loop
 element-copy-out-bind-field c = search needs
 
--- src/lib.rt:126:41
 shared-slice-read-bind-field : tie.Need-shared-slice-read-bind-field Inv-loop μ-loop
 shared-slice-read-bind-field c = search needs
 
--- src/lib.rt:126:74
 add-word4 : tie.Need-add-word4 Inv-loop μ-loop
 add-word4 c = search needs
 
--- src/lib.rt:126:53
 word4-requires : tie.Need-word4-requires Inv-loop μ-loop
 word4-requires c κs = search needs
 
--- src/lib.rt:126:9
 bind-field-requires : tie.Need-bind-field-requires Inv-loop μ-loop
 bind-field-requires c κs = search needs
 
--- src/lib.rt:127:9
 add-j : tie.Need-add-j Inv-loop μ-loop
 add-j c = search needs
 
--- src/lib.rt:124:5
 loop-less : tie.Need-loop-less Inv-loop μ-loop
 loop-less c = search needs
 
--- src/lib.rt:124:5
 loop-again : tie.Need-loop-again Inv-loop μ-loop
 loop-again c =
     let at = c .before .before .before .before .before in
@@ -92,7 +75,6 @@ loop-again c =
           _ (c .before .word4 .result) (c .before .before .before .before .loop-test .taken) (few start) refl (c .before .word4 .ensures) (c .bind-field .ensures),
     )
 
--- src/lib.rt:117:1
 returns : tie.Need-returns Inv-loop μ-loop
 returns c =
     let start = c .before .before .before in

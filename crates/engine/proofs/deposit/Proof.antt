@@ -1,3 +1,4 @@
+-- `engine::deposit` meets its contract. Assumes nothing.
 use borrow.Author.Needs.{needs}
 use mathlib.Core.Path.{_≡_, refl, sym, ap, _∙_}
 use mathlib.Core.Bool.{Bool, true, false}
@@ -10,10 +11,6 @@ use Rattle.engine.specs.Making.{madeBytes}
 use Rattle.engine.specs.Performing.{deposit-unmade, deposit-full, deposit-done}
 use Rattle.engine.proofs.deposit.Statement.{statement}
 use Rattle.engine.proofs.deposit.Tie as tie
-use Rattle.engine.proofs.deposit.Reads as reads
-use Rattle.engine.proofs.deposit.Lts as lts
-use Rattle.engine.proofs.make_tuple.Reads as make-tuple-reads
-use Rattle.tuples.proofs.append.Reads as append-reads
 
 module _ (c : tie.After-make-tuple) where
   abbrev start : tie.Start
@@ -23,37 +20,30 @@ module _ (c : tie.After-make-tuple) where
   made : (ok : Bool) → c .make-tuple .result .ok ≡ ok → provided ok (c .make-tuple .result .tuple) ≡ madeBytes (bindingsOf (start .args .v)) (start .args .op .from) (fieldsIn (start .args .op))
   made ok e = ap (λ (b : Bool). provided b (c .make-tuple .result .tuple)) (sym e) ∙ c .make-tuple .ensures
 
--- src/lib.rt:263:9
 make-tuple-requires : tie.Need-make-tuple-requires
 make-tuple-requires c κs = let pre = c .before .pre in (pre .1, pre .2 .space, pre .2 .make)
 
--- src/lib.rt:265:9
 returns : tie.Need-returns
 returns c =
     let at = c .before .before in
     let a = (start at) .args in
     deposit-unmade (bindingsOf (a .v)) (a .op .from) (fieldsIn (a .op)) (now (a .tuples)) (a .n) (a .v) refl (at .make-tuple .result .tuple) (now (a .tuples)) (made at false (not-true _ (c .if1 .taken)))
 
--- src/lib.rt:272:9
 returns-2 : tie.Need-returns-2
 returns-2 c =
     let at = c .before .before .before in
     let a = (start at) .args in
     deposit-full (bindingsOf (a .v)) (a .op .from) (fieldsIn (a .op)) (now (a .tuples)) (a .n) (a .v) refl (at .make-tuple .result .tuple) (now (a .tuples)) (made at true (not-false _ (c .before .if1 .left))) (c .if2 .taken)
 
--- src/lib.rt:279:5
 append-requires : tie.Need-append-requires
 append-requires c κs = (c .before .before .before .before .before .before .before .before .pre .0, c .before .before .before .if2 .left)
 
--- src/lib.rt:282:12
 add-t12 : tie.Need-add-t12
 add-t12 c = search needs
 
--- src/lib.rt:259:1
 same-length : tie.Need-same-length
 same-length c = search needs
 
--- src/lib.rt:259:1
 returns-3 : tie.Need-returns-3
 returns-3 c =
     let test = c .before .before .before .before .before .before in

@@ -1,3 +1,4 @@
+-- `engine::held` meets its contract. Assumes nothing.
 use borrow.Author.Needs.{needs}
 use mathlib.Core.Path.{refl}
 use Prim.Native.Nat.{_≤_}
@@ -7,45 +8,34 @@ use lib.ListN.{length, List·getD-eq-default}
 use Rattle.engine.specs.Variables.{Sixteen, read-bound, read-unbound}
 use Rattle.engine.proofs.held.Statement.{statement}
 use Rattle.engine.proofs.held.Tie as tie
-use Rattle.engine.proofs.held.Reads as reads
-use Rattle.engine.proofs.held.Lts as lts
-use Rattle.words.proofs.size.Reads as size-reads
 
--- src/lib.rt:32:9
 size-requires : tie.Need-size-requires
 size-requires c κs = search needs
 
--- src/lib.rt:34:12
 element-copy-out-if2 : tie.Need-element-copy-out-if2
 element-copy-out-if2 c = search needs
 
--- src/lib.rt:36:23
 element-copy-out-t12 : tie.Need-element-copy-out-t12
 element-copy-out-t12 c = search needs
 
--- src/lib.rt:38:23
 mul-t13 : tie.Need-mul-t13
 mul-t13 c = search needs
 
--- src/lib.rt:38:23
 element-copy-out-t16 : tie.Need-element-copy-out-t16
 element-copy-out-t16 c = search needs
 
--- src/lib.rt:35:13
 returns : tie.Need-returns
 returns c =
     let v = c .before .before .before .before .before .before .args .t1 in
     let n : Sixteen v = search needs in
     (read-bound v (c .before .before .before .before .before .before .args .variable) (c .before .before .before .before .before .size .result) n (c .before .before .before .before .before .size .ensures .0) (c .before .before .if2 .taken), refl)
 
--- src/lib.rt:29:1
 returns-2 : tie.Need-returns-2
 returns-2 c =
     let start = c .before .before .before .before in
     let n : Sixteen (start .args .t1) = search needs in
     (read-unbound (start .args .t1) (start .args .variable) (c .before .before .before .size .result) n (c .before .before .before .size .ensures .0) (c .if2 .left), refl)
 
--- src/lib.rt:29:1
 returns-3 : tie.Need-returns-3
 returns-3 c =
     let start = c .before .before in

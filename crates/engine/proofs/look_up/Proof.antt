@@ -1,3 +1,4 @@
+-- `engine::look_up` meets its contract. Assumes nothing.
 use borrow.Author.Needs.{needs}
 use mathlib.Core.Path.{_≡_, sym, ap, _∙_}
 use Prim.Native.Nat.{ℕ, _≤_, _<_}
@@ -15,12 +16,6 @@ use Rattle.engine.specs.Variables.{bindingsOf}
 use Rattle.engine.specs.Performing.{at-below, at-count, look-none, look-removed, look-read}
 use Rattle.engine.proofs.look_up.Statement.{statement}
 use Rattle.engine.proofs.look_up.Tie as tie
-use Rattle.engine.proofs.look_up.Reads as reads
-use Rattle.engine.proofs.look_up.Lts as lts
-use Rattle.engine.proofs.bind_at.Reads as bind-at-reads
-use Rattle.engine.proofs.template_of.Reads as template-of-reads
-use Rattle.tuples.proofs.find.Reads as find-reads
-use Rattle.tuples.proofs.remove.Reads as remove-reads
 
 few : (c : tie.Start) → c .args .op .count ≤ length (c .args .op .fields)
 few c = let six : length (c .args .op .fields) ≡ 6 = search (needs, length-mapped) in omega (arith, c .pre .1)
@@ -39,21 +34,17 @@ module _ (c : tie.After-find) where
   below : (i : ℕ) → c .find .result ≡ At i → i < start .args .n
   below i e = at-below (bindingsOf (start .args .v)) (start .args .op .from) (fieldsIn (start .args .op)) bytes (start .args .n) (c .before .template-of .result) (c .before .template-of .ensures) i (found i e)
 
--- src/lib.rt:233:35
 template-of-requires : tie.Need-template-of-requires
 template-of-requires c κs = search needs
 
--- src/lib.rt:233:11
 find-requires : tie.Need-find-requires
 find-requires c κs =
     let start = c .before .before .before in
     (holds-length _ _ _ (start .pre .0), start .pre .0 .few, c .template-of .ensures .few)
 
--- src/lib.rt:234:19
 enum-known-i : tie.Need-enum-known-i
 enum-known-i c = search needs
 
--- src/lib.rt:235:17
 bind-at-requires : tie.Need-bind-at-requires
 bind-at-requires c κs =
     let at = c .before .before .before .before in
@@ -66,25 +57,21 @@ bind-at-requires c κs =
           ∙ fields-length (a .op .fields) (a .op .count) (few (start at)),
     )
 
--- src/lib.rt:237:17
 remove-requires : tie.Need-remove-requires
 remove-requires c κs =
     let arm = c .before .before .before .before .before in
     let at = arm .before .before in
     (start at .pre .0, below at (arm .i .given .0 .0) (arm .i .given .1))
 
--- src/lib.rt:240:24
 sub-t19 : tie.Need-sub-t19
 sub-t19 c =
     let arm = c .before .before .before .before .before .before .before .before in
     let at = arm .before .before in
     let l = below at (arm .i .given .0 .0) (arm .i .given .1) in omega arith
 
--- src/lib.rt:238:17
 same-length : tie.Need-same-length
 same-length c = search needs
 
--- src/lib.rt:238:17
 returns : tie.Need-returns
 returns c =
     let arm = c .before .before .before .before .before .before .before .before in
@@ -94,15 +81,12 @@ returns c =
     (arm .i .given .0 .0) (c .before .before .before .before .before .bind-at .result) _
     (found at (arm .i .given .0 .0) (arm .i .given .1)) (c .before .before .before .before .before .bind-at .ensures) (c .before .before .remove .ensures)
 
--- src/lib.rt:250:27
 enum-told : tie.Need-enum-told
 enum-told c = search needs
 
--- src/lib.rt:229:1
 same-length-2 : tie.Need-same-length-2
 same-length-2 c = search needs
 
--- src/lib.rt:229:1
 returns-2 : tie.Need-returns-2
 returns-2 c =
     let arm = c .before .before .before .before in
@@ -111,11 +95,9 @@ returns-2 c =
     look-read (bindingsOf (a .v)) (a .op .from) (fieldsIn (a .op)) (bytes at) (a .n) (at .before .template-of .result) (at .before .template-of .ensures) (a .withdraws) (c .if1 .left)
     (arm .i .given .0 .0) (c .before .bind-at .result) (found at (arm .i .given .0 .0) (arm .i .given .1)) (c .before .bind-at .ensures) (start at .pre .0)
 
--- src/lib.rt:229:1
 same-length-3 : tie.Need-same-length-3
 same-length-3 c = search needs
 
--- src/lib.rt:229:1
 returns-3 : tie.Need-returns-3
 returns-3 c =
     let at = c .before .before in

@@ -1,3 +1,4 @@
+-- `engine::make_tuple` meets its contract. Assumes nothing.
 use borrow.Author.Needs.{needs}
 use mathlib.Core.Path.{_≡_, refl, _∙_}
 use Prim.Native.Nat.{_-_, _≤_}
@@ -11,10 +12,6 @@ use Rattle.engine.specs.Variables.{bindingsOf}
 use Rattle.engine.specs.Making.{CanMake, Making, making-none, making-more, making-fails, making-all}
 use Rattle.engine.proofs.make_tuple.Statement.{statement}
 use Rattle.engine.proofs.make_tuple.Tie as tie
-use Rattle.engine.proofs.make_tuple.Reads as reads
-use Rattle.engine.proofs.make_tuple.Lts as lts
-use Rattle.engine.proofs.field_value.Reads as field-value-reads
-use Rattle.engine.proofs.put_value.Reads as put-value-reads
 
 abbrev Inv-loop : tie.InvT-loop
 Inv-loop v op n tuple₀ j₀ tuple j = (j ≤ n) × (length tuple ≡ tupleSize) × Making (bindingsOf v) (op .from) (fieldsIn op) n j tuple
@@ -31,42 +28,33 @@ next c =
     let a = c .before .before .args in
     fields-drop (a .t1 .fields) (a .t1 .count) (c .before .loop .j) noField (c .loop-test .taken) (few (c .before .before))
 
--- src/lib.rt:205:16
 cast-tuple : tie.Need-cast-tuple Inv-loop μ-loop
 cast-tuple c = search needs
 
--- src/lib.rt:205:5
 array-write-tuple : tie.Need-array-write-tuple Inv-loop μ-loop
 array-write-tuple c = search needs
 
--- src/lib.rt:206:16
 cast-tuple-2 : tie.Need-cast-tuple-2 Inv-loop μ-loop
 cast-tuple-2 c = search needs
 
--- src/lib.rt:206:5
 array-write-tuple-2 : tie.Need-array-write-tuple-2 Inv-loop μ-loop
 array-write-tuple-2 c = search needs
 
--- src/lib.rt:208:5
 loop-holds : tie.Need-loop-holds Inv-loop μ-loop
 unfolding pad zeros
 loop-holds c = (search needs, refl, making-none (bindingsOf (c .args .v)) (c .args .t1 .from) (fieldsIn (c .args .t1)) (c .args .t1 .count) _ refl (c .pre .1))
 
--- src/lib.rt:209:29
 mul-field-value : tie.Need-mul-field-value Inv-loop μ-loop
 mul-field-value c = search needs
 
--- src/lib.rt:209:29
 element-copy-out-field-value : tie.Need-element-copy-out-field-value Inv-loop μ-loop
 element-copy-out-field-value c = search needs
 
--- src/lib.rt:209:13
 field-value-requires : tie.Need-field-value-requires Inv-loop μ-loop
 field-value-requires c κs =
     let start = c .before .before .before in
     each-drop (CanMake (bindingsOf (start .args .v))) (fieldsIn (start .args .t1)) (c .before .before .loop .j) _ _ (start .pre .2) (next (c .before))
 
--- src/lib.rt:211:13
 returns : tie.Need-returns Inv-loop μ-loop
 returns c =
     let at = c .before .before .before .before .before in
@@ -74,31 +62,24 @@ returns c =
     making-fails (bindingsOf (a .v)) (a .t1 .from) (fieldsIn (a .t1)) (a .t1 .count) (at .loop .j) (at .loop .tuple) _ (c .before .before .field-value .result .kind) (c .before .before .field-value .result .bits)
     (c .before .before .field-value .result .given) (at .loop .inv .2) (next (c .before .before .before .before)) (c .before .before .field-value .ensures) (not-true _ (c .if1 .taken))
 
--- src/lib.rt:213:19
 slice-aggregate-put-value : tie.Need-slice-aggregate-put-value Inv-loop μ-loop
 slice-aggregate-put-value c = search needs
 
--- src/lib.rt:213:35
 mul-put-value : tie.Need-mul-put-value Inv-loop μ-loop
 mul-put-value c = search needs
 
--- src/lib.rt:213:31
 add-put-value : tie.Need-add-put-value Inv-loop μ-loop
 add-put-value c = search needs
 
--- src/lib.rt:213:9
 put-value-requires : tie.Need-put-value-requires Inv-loop μ-loop
 put-value-requires c κs = search needs
 
--- src/lib.rt:214:9
 add-j : tie.Need-add-j Inv-loop μ-loop
 add-j c = search needs
 
--- src/lib.rt:208:5
 loop-less : tie.Need-loop-less Inv-loop μ-loop
 loop-less c = search needs
 
--- src/lib.rt:208:5
 loop-again : tie.Need-loop-again Inv-loop μ-loop
 loop-again c =
     let value = c .before .before .before .before .before in
@@ -112,7 +93,6 @@ loop-again c =
           (at .loop .inv .2) (turn .loop-test .taken) (at .before .pre .0) (next turn) (value .field-value .ensures) (not-false _ (c .before .before .before .if1 .left)) (c .before .put-value .ensures),
     )
 
--- src/lib.rt:199:1
 returns-2 : tie.Need-returns-2 Inv-loop μ-loop
 returns-2 c =
     let a = c .before .before .args in

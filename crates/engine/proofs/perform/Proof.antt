@@ -1,3 +1,4 @@
+-- `engine::perform` meets its contract. Assumes nothing.
 use borrow.Author.Needs.{needs}
 use mathlib.Core.Path.{refl, sym, ap, subst}
 use denote.Ref.{now}
@@ -8,40 +9,29 @@ use Rattle.engine.specs.Performing.{leaves-done}
 use Rattle.engine.specs.Codes.{CanPerform, leaves-as, code-true, code-in, code-rd, code-out, code-move, code-copy}
 use Rattle.engine.proofs.perform.Statement.{statement}
 use Rattle.engine.proofs.perform.Tie as tie
-use Rattle.engine.proofs.perform.Reads as reads
-use Rattle.engine.proofs.perform.Lts as lts
-use Rattle.engine.proofs.deposit.Reads as deposit-reads
-use Rattle.engine.proofs.look_up.Reads as look-up-reads
-use Rattle.engine.proofs.transfer.Reads as transfer-reads
 
--- src/lib.rt:331:14
 deposit-requires : tie.Need-deposit-requires
 deposit-requires c κs =
     let start = c .before .before .before in
     (start .pre .0, start .pre .1, subst (CanPerform (bindingsOf (start .args .v))) (sym (code-out (start .args .op) (c .before .match .keys2))) (start .pre .2))
 
--- src/lib.rt:332:14
 transfer-requires : tie.Need-transfer-requires
 transfer-requires c κs =
     let start = c .before .before .before in
     (start .pre .0, start .pre .1, subst (CanPerform (bindingsOf (start .args .v))) (sym (code-move (start .args .op) (c .before .match .keys3))) (start .pre .2))
 
--- src/lib.rt:329:18
 look-up-requires : tie.Need-look-up-requires
 look-up-requires c κs = search needs
 
--- src/lib.rt:330:18
 look-up-requires-2 : tie.Need-look-up-requires-2
 look-up-requires-2 c κs = search needs
 
--- src/lib.rt:333:14
 transfer-requires-2 : tie.Need-transfer-requires-2
 transfer-requires-2 c κs =
     let rest = c .before .before .before in
     let start = rest .before .before in
     (start .pre .0, start .pre .1, subst (CanPerform (bindingsOf (start .args .v))) (sym (code-copy (start .args .op) (c .before .if2 .left) (rest .match .rest .0 .1) (rest .match .rest .1))) (start .pre .2))
 
--- src/lib.rt:318:1
 returns : tie.Need-returns
 returns c =
     let start = c .before .before in
@@ -50,11 +40,9 @@ returns c =
     let ts = tuplesOf (now (a .tuples)) (a .n) in
     leaves-as _ _ 0 (a .n) (a .v) (now (a .tuples)) (code-true (a .op) bs ts (c .match .keys1)) (leaves-done bs ts (a .n) (a .v) (now (a .tuples)) refl (start .pre .0))
 
--- src/lib.rt:318:1
 same-length : tie.Need-same-length
 same-length c = search needs
 
--- src/lib.rt:318:1
 returns-2 : tie.Need-returns-2
 returns-2 c =
     let call = c .before .before in
@@ -62,11 +50,9 @@ returns-2 c =
     let r = call .deposit .result in
     leaves-as _ _ (r .outcome) (r .n) (r .vars) _ (ap (λ o. perform o (bindingsOf (a .v)) (tuplesOf (now (a .tuples)) (a .n))) (code-out (a .op) (call .before .before .match .keys2))) (call .deposit .ensures)
 
--- src/lib.rt:318:1
 same-length-2 : tie.Need-same-length-2
 same-length-2 c = search needs
 
--- src/lib.rt:318:1
 returns-3 : tie.Need-returns-3
 returns-3 c =
     let call = c .before .before in
@@ -74,11 +60,9 @@ returns-3 c =
     let r = call .transfer .result in
     leaves-as _ _ (r .outcome) (r .n) (r .vars) _ (ap (λ o. perform o (bindingsOf (a .v)) (tuplesOf (now (a .tuples)) (a .n))) (code-move (a .op) (call .before .before .match .keys3))) (call .transfer .ensures)
 
--- src/lib.rt:318:1
 same-length-3 : tie.Need-same-length-3
 same-length-3 c = search needs
 
--- src/lib.rt:318:1
 returns-4 : tie.Need-returns-4
 returns-4 c =
     let call = c .before .before in
@@ -87,11 +71,9 @@ returns-4 c =
     let r = call .look-up .result in
     leaves-as _ _ (r .outcome) (r .n) (r .vars) _ (code-in (a .op) (bindingsOf (a .v)) (tuplesOf (now (a .tuples)) (a .n)) (rest .match .rest .0 .0 .1) (call .before .before .if1 .taken)) (call .look-up .ensures)
 
--- src/lib.rt:318:1
 same-length-4 : tie.Need-same-length-4
 same-length-4 c = search needs
 
--- src/lib.rt:318:1
 returns-5 : tie.Need-returns-5
 returns-5 c =
     let call = c .before .before in
@@ -100,11 +82,9 @@ returns-5 c =
     let r = call .look-up2 .result in
     leaves-as _ _ (r .outcome) (r .n) (r .vars) _ (code-rd (a .op) (bindingsOf (a .v)) (tuplesOf (now (a .tuples)) (a .n)) (test .before .if1 .left) (test .if2 .taken)) (call .look-up2 .ensures)
 
--- src/lib.rt:318:1
 same-length-5 : tie.Need-same-length-5
 same-length-5 c = search needs
 
--- src/lib.rt:318:1
 returns-6 : tie.Need-returns-6
 returns-6 c =
     let call = c .before .before in

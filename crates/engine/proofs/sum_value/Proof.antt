@@ -1,3 +1,4 @@
+-- `engine::sum_value` meets its contract. Assumes nothing.
 use borrow.Author.Needs.{needs}
 use mathlib.Core.Path.{sym, ap, _∙_}
 use Rattle.model.specs.Value.{value}
@@ -6,32 +7,21 @@ use Rattle.engine.specs.Variables.{bindingsOf}
 use Rattle.engine.specs.Making.{sum-legal, operands, sum-given, sum-refused}
 use Rattle.engine.proofs.sum_value.Statement.{statement}
 use Rattle.engine.proofs.sum_value.Tie as tie
-use Rattle.engine.proofs.sum_value.Reads as reads
-use Rattle.engine.proofs.sum_value.Lts as lts
-use Rattle.engine.proofs.held.Reads as held-reads
-use Rattle.values.proofs.add.Reads as add-reads
-use Rattle.values.proofs.bits_of.Reads as bits-of-reads
-use Rattle.values.proofs.kind_of.Reads as kind-of-reads
 
--- src/lib.rt:141:9
 held-requires : tie.Need-held-requires
 held-requires c κs = search needs
 
--- src/lib.rt:142:11
 add-requires : tie.Need-add-requires
 add-requires c κs =
     let a = c .before .args in
     operands (bindingsOf (a .v)) (a .f .variable) (value (a .f .kind) (a .f .bits)) (c .held .result .kind) (c .held .result .bits) (c .held .ensures .0) (c .before .pre)
 
--- src/lib.rt:143:17
 enum-known-x : tie.Need-enum-known-x
 enum-known-x c = search needs
 
--- src/lib.rt:144:19
 kind-of-requires : tie.Need-kind-of-requires
 kind-of-requires c κs = search needs
 
--- src/lib.rt:146:19
 bits-of-requires : tie.Need-bits-of-requires
 bits-of-requires c κs =
     let at = c .before .before .before .before in
@@ -40,11 +30,9 @@ bits-of-requires c κs =
     sum-legal (a .subtract) (a .f .kind) (at .before .held .result .bits) (a .f .bits) (valueIs (c .before .before .x .given .0 .0)) (legal .0) (legal .1)
     (sym (at .add .ensures) ∙ ap sumIs (c .before .before .x .given .1))
 
--- src/lib.rt:148:25
 enum-told : tie.Need-enum-told
 enum-told c = search needs
 
--- src/lib.rt:137:1
 returns : tie.Need-returns
 returns c =
     let at = c .before .before .before .before .before in
@@ -52,7 +40,6 @@ returns c =
     sum-given (bindingsOf (a .v)) (a .f .variable) (value (a .f .kind) (a .f .bits)) (at .before .held .result .kind) (at .before .held .result .bits) (at .before .held .ensures .0) (a .subtract)
     (valueIs (c .before .before .before .x .given .0 .0)) (c .before .kind-of .result) (c .bits-of .result) (ap sumIs (sym (c .before .before .before .x .given .1)) ∙ at .add .ensures) (c .before .kind-of .ensures) (c .bits-of .ensures)
 
--- src/lib.rt:137:1
 returns-2 : tie.Need-returns-2
 returns-2 c =
     let at = c .before .before in

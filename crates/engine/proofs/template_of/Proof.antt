@@ -1,3 +1,4 @@
+-- `engine::template_of` meets its contract. Assumes nothing.
 use borrow.Author.Needs.{needs}
 use mathlib.Core.Path.{_≡_, refl, sym}
 use Prim.Native.Nat.{_≤_, _<_, _-_}
@@ -9,9 +10,6 @@ use Rattle.engine.specs.Templates.{AskFrom, ask-turn, asks-for}
 use Rattle.engine.specs.Fields.{fieldsIn, length-mapped, fields-length}
 use Rattle.engine.proofs.template_of.Statement.{statement}
 use Rattle.engine.proofs.template_of.Tie as tie
-use Rattle.engine.proofs.template_of.Reads as reads
-use Rattle.engine.proofs.template_of.Lts as lts
-use Rattle.engine.proofs.asked.Reads as asked-reads
 
 abbrev Inv-loop : tie.InvT-loop
 Inv-loop v op kinds₀ given₀ bits₀ n i₀ kinds given bits i =
@@ -20,44 +18,34 @@ Inv-loop v op kinds₀ given₀ bits₀ n i₀ kinds given bits i =
 abbrev μ-loop : tie.MeasureT-loop
 μ-loop v op kinds₀ given₀ bits₀ n i₀ kinds given bits i = n - i
 
--- src/lib.rt:81:5
 loop-holds : tie.Need-loop-holds Inv-loop μ-loop
 unfolding fieldsAre
 loop-holds c = (search needs, tt, refl, refl, refl)
 
--- src/lib.rt:82:23
 mul-asked : tie.Need-mul-asked Inv-loop μ-loop
 mul-asked c = search needs
 
--- src/lib.rt:82:23
 element-copy-out-asked : tie.Need-element-copy-out-asked Inv-loop μ-loop
 element-copy-out-asked c = search needs
 
--- src/lib.rt:82:13
 asked-requires : tie.Need-asked-requires Inv-loop μ-loop
 asked-requires c κs = search needs
 
--- src/lib.rt:83:9
 array-write-kinds : tie.Need-array-write-kinds Inv-loop μ-loop
 array-write-kinds c = search needs
 
--- src/lib.rt:84:9
 array-write-given : tie.Need-array-write-given Inv-loop μ-loop
 array-write-given c = search needs
 
--- src/lib.rt:85:9
 mul-bits : tie.Need-mul-bits Inv-loop μ-loop
 mul-bits c = search needs
 
--- src/lib.rt:85:9
 array-write-bits : tie.Need-array-write-bits Inv-loop μ-loop
 array-write-bits c = search needs
 
--- src/lib.rt:86:9
 add-i : tie.Need-add-i Inv-loop μ-loop
 add-i c = search needs
 
--- src/lib.rt:81:5
 loop-less : tie.Need-loop-less Inv-loop μ-loop
 loop-less c = search needs
 
@@ -75,7 +63,6 @@ loop-again c =
       search needs,
     )
 
--- src/lib.rt:72:1
 returns : tie.Need-returns Inv-loop μ-loop
 returns c =
     let start = c .before .before in

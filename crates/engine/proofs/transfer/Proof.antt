@@ -1,3 +1,4 @@
+-- `engine::transfer` meets its contract. Assumes nothing.
 use borrow.Author.Needs.{needs}
 use mathlib.Core.Path.{refl}
 use denote.Ref.{now}
@@ -6,40 +7,28 @@ use Rattle.engine.specs.Variables.{bindingsOf}
 use Rattle.engine.specs.Performing.{transfer-moved, transfer-full, transfer-copied}
 use Rattle.engine.proofs.transfer.Statement.{statement}
 use Rattle.engine.proofs.transfer.Tie as tie
-use Rattle.engine.proofs.transfer.Reads as reads
-use Rattle.engine.proofs.transfer.Lts as lts
-use Rattle.engine.proofs.template_of.Reads as template-of-reads
-use Rattle.tuples.proofs.copy_all.Reads as copy-all-reads
-use Rattle.tuples.proofs.move_all.Reads as move-all-reads
 
--- src/lib.rt:292:9
 template-of-requires : tie.Need-template-of-requires
 template-of-requires c κs = search needs
 
--- src/lib.rt:294:9
 move-all-requires : tie.Need-move-all-requires
 move-all-requires c κs = search needs
 
--- src/lib.rt:295:9
 same-length : tie.Need-same-length
 same-length c = search needs
 
--- src/lib.rt:295:9
 returns : tie.Need-returns
 returns c =
     let at = c .before .before .before .before .before in
     let a = at .before .before .args in
     transfer-moved (bindingsOf (a .v)) (a .op .from) (a .op .to) (fieldsIn (a .op)) (now (a .tuples)) (a .n) (a .v) refl (at .template-of .result) (at .template-of .ensures) _ (a .withdraws) (c .before .before .before .before .if1 .taken) (c .before .before .move-all .ensures)
 
--- src/lib.rt:301:9
 copy-all-requires : tie.Need-copy-all-requires
 copy-all-requires c κs = search needs
 
--- src/lib.rt:303:9
 same-length-2 : tie.Need-same-length-2
 same-length-2 c = search needs
 
--- src/lib.rt:303:9
 returns-2 : tie.Need-returns-2
 returns-2 c =
     let call = c .before .before .before in
@@ -48,11 +37,9 @@ returns-2 c =
     transfer-full (bindingsOf (a .v)) (a .op .from) (a .op .to) (fieldsIn (a .op)) (now (a .tuples)) (a .n) (a .v) refl (at .template-of .result) (at .template-of .ensures) _ (call .copy-all .result) (a .withdraws) (call .before .before .if1 .left)
     (call .copy-all .ensures) (c .if2 .taken)
 
--- src/lib.rt:288:1
 same-length-3 : tie.Need-same-length-3
 same-length-3 c = search needs
 
--- src/lib.rt:288:1
 returns-3 : tie.Need-returns-3
 returns-3 c =
     let call = c .before .before .before in
