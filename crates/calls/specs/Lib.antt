@@ -1,6 +1,7 @@
 pub mod Calls
 pub mod TwoReplicas
 pub mod CallLaws
+pub mod StateSteps
 pub mod ReturnLaws
 pub mod BufferLaws
 pub mod Theorem
