@@ -11,9 +11,8 @@ use Rattle.model.specs.Step.{Request, recover, crash, monitor, openSpace, close
 use Rattle.layout.specs.Replies.{replyBytes, repliesBytes}
 use Rattle.layout.specs.States.{decode}
 use Rattle.replies.specs.Written.{reply, Wrote}
-use Rattle.records.specs.Stored.{Stored}
+use Rattle.layout.specs.Stored.{Stored, Turned}
 use Rattle.records.specs.StoredLaws.{stored-says}
-use Rattle.effects.specs.Effected.{Effected}
 
 pub last-is : (b : List ℕ) → numberAt lastAt positionWidth b ≡ (decode b) .last
 unfolding decode
@@ -25,16 +24,16 @@ unfolding decode
 count-is b m n e f = f ∙ ap (λ (k : ℕ). count (bits hosts k)) e
 
 -- a turn of one reply
-one-reply : (t : Turn) (x : Reply) (b entry exit : List ℕ) (n : ℕ) → t .replies ≡ x ∷ [] → Stored b (t .run) → Wrote x entry exit n → Effected t b entry exit n
+one-reply : (t : Turn) (x : Reply) (b entry exit : List ℕ) (n : ℕ) → t .replies ≡ x ∷ [] → Stored b (t .run) → Wrote x entry exit n → Turned t entry b exit n
 unfolding repliesBytes flatMap
 one-reply t x b entry exit n e k w =
     let same : repliesBytes (t .replies) ≡ replyBytes x = ap repliesBytes e ∙ append-nil (replyBytes x) in
-    record { run = k; bytes = rw same (w .bytes); number = rw same (w .number) }
+    record { stored = k; bytes = rw same (w .bytes); number = rw same (w .number) }
 
 -- the reply at the position and with the values of the run after the effect
 module _ (b entry exit : List ℕ) (s : Run) (host process n : ℕ) (k : Stored b s) where
   replied-as : (q : Request) (vs ws : List (ℕ × Value)) (position : ℕ) → host ≡ askingHost q → process ≡ askingProcess q → position ≡ (decode b) .last → ws ≡ vs
-      → Wrote (reply position host process 0 0 ws) entry exit n → Effected (replied s q vs) b entry exit n
+      → Wrote (reply position host process 0 0 ws) entry exit n → Turned (replied s q vs) entry b exit n
   unfolding replied plainReply
   replied-as q vs ws position eh ep el ev w =
       let e : position ≡ s .last = el ∙ ap (λ (r : Run). r .last) (stored-says b s k) in
@@ -43,7 +42,7 @@ module _ (b entry exit : List ℕ) (s : Run) (host process n : ℕ) (k : Stored 
 
 -- RV
 pub recover-answered : (b b′ entry exit : List ℕ) (h n : ℕ) → Stored b′ (recovered (decode b) h)
-    → Wrote (reply ((decode b′) .last) h 0 0 0 (inVariable0 (count ((decode b′) .up)))) entry exit n → Effected (effect (decode b) (recover h)) b′ entry exit n
+    → Wrote (reply ((decode b′) .last) h 0 0 0 (inVariable0 (count ((decode b′) .up)))) entry exit n → Turned (effect (decode b) (recover h)) entry b′ exit n
 unfolding effect askingHost askingProcess
 recover-answered b b′ entry exit h n k w =
     replied-as b′ entry exit (recovered (decode b) h) h 0 n k (recover h) (inVariable0 (count ((recovered (decode b) h) .up))) (inVariable0 (count ((decode b′) .up))) ((decode b′) .last) refl refl refl
@@ -51,7 +50,7 @@ recover-answered b b′ entry exit h n k w =
 
 -- CR
 pub crash-answered : (b b′ entry exit : List ℕ) (h n : ℕ) → Stored b′ (crashed (decode b) h)
-    → Wrote (reply ((decode b′) .last) h 0 0 0 (inVariable0 (count ((decode b′) .up)))) entry exit n → Effected (effect (decode b) (crash h)) b′ entry exit n
+    → Wrote (reply ((decode b′) .last) h 0 0 0 (inVariable0 (count ((decode b′) .up)))) entry exit n → Turned (effect (decode b) (crash h)) entry b′ exit n
 unfolding effect askingHost askingProcess
 crash-answered b b′ entry exit h n k w =
     replied-as b′ entry exit (crashed (decode b) h) h 0 n k (crash h) (inVariable0 (count ((crashed (decode b) h) .up))) (inVariable0 (count ((decode b′) .up))) ((decode b′) .last) refl refl refl
@@ -59,21 +58,21 @@ crash-answered b b′ entry exit h n k w =
 
 -- MO
 pub monitor-answered : (b b′ entry exit : List ℕ) (h p m position n : ℕ) → Stored b′ (withMonitors (decode b) (nextMonitor (decode b))) → m ≡ nextMonitor (decode b) → position ≡ numberAt lastAt positionWidth b′
-    → Wrote (reply position h p 0 0 (inVariable0 m)) entry exit n → Effected (effect (decode b) (monitor h p)) b′ entry exit n
+    → Wrote (reply position h p 0 0 (inVariable0 m)) entry exit n → Turned (effect (decode b) (monitor h p)) entry b′ exit n
 unfolding effect askingHost askingProcess
 monitor-answered b b′ entry exit h p m position n k em el w =
     replied-as b′ entry exit (withMonitors (decode b) (nextMonitor (decode b))) h p n k (monitor h p) (inVariable0 (nextMonitor (decode b))) (inVariable0 m) position refl refl (el ∙ last-is b′) (ap inVariable0 em) w
 
 -- MS
 pub open-answered : (b b′ entry exit : List ℕ) (h p : ℕ) (isPrivate : Bool) (m position n : ℕ) → Stored b′ (opened (decode b) p isPrivate) → m ≡ (decode b) .next → position ≡ numberAt lastAt positionWidth b′
-    → Wrote (reply position h p 0 0 (inVariable0 m)) entry exit n → Effected (effect (decode b) (openSpace h p isPrivate)) b′ entry exit n
+    → Wrote (reply position h p 0 0 (inVariable0 m)) entry exit n → Turned (effect (decode b) (openSpace h p isPrivate)) entry b′ exit n
 unfolding effect askingHost askingProcess
 open-answered b b′ entry exit h p isPrivate m position n k em el w =
     replied-as b′ entry exit (opened (decode b) p isPrivate) h p n k (openSpace h p isPrivate) (inVariable0 ((decode b) .next)) (inVariable0 m) position refl refl (el ∙ last-is b′) (ap inVariable0 em) w
 
 -- DS
 pub close-answered : (b b′ entry exit : List ℕ) (h p m position n : ℕ) → Stored b′ (closed (decode b) m) → position ≡ numberAt lastAt positionWidth b′
-    → Wrote (reply position h p 0 0 []) entry exit n → Effected (effect (decode b) (closeSpace h p m)) b′ entry exit n
+    → Wrote (reply position h p 0 0 []) entry exit n → Turned (effect (decode b) (closeSpace h p m)) entry b′ exit n
 unfolding effect askingHost askingProcess
 close-answered b b′ entry exit h p m position n k el w =
     replied-as b′ entry exit (closed (decode b) m) h p n k (closeSpace h p m) [] [] position refl refl (el ∙ last-is b′) refl w

@@ -1,2 +1,1 @@
-pub mod Effected
 pub mod EffectLaws

@@ -10,12 +10,11 @@ ghost use Rattle.model.specs.Run.{hostUp, monitorsUsedUp};
 ghost use Rattle.model.specs.Step.{recover, crash, monitor, openSpace, closeSpace, failureTuples, someWaitingNames, inVariable0, effect};
 ghost use Rattle.layout.specs.States.{decode};
 ghost use Rattle.replies.specs.Written.{headSize, valueSize, reply, Wrote};
-ghost use Rattle.records.specs.Stored.{Said};
-ghost use Rattle.effects.specs.Effected.{Effected};
+ghost use Rattle.layout.specs.Stored.{IsStored, Turned};
 
 // "CR and RV the count of hosts now up", "replies show process 0".
 fn answer_up(state: &[u8], out: &mut [u8], host: u8) -> usize
-    requires { ⌜ Said (now state) × (headSize + valueSize ≤ length (now out)) ⌝ }
+    requires { ⌜ IsStored (now state) × (headSize + valueSize ≤ length (now out)) ⌝ }
     ensures { λ r. ⌜ Wrote (reply ((decode (now (state .entry))) .last) host 0 0 0 (inVariable0 (count ((decode (now (state .entry))) .up)))) (now (out .entry)) (now (out .exit)) r ⌝ }
 {
     let up = values::hosts_up(words::word2(state, words::MASK_AT));
@@ -24,8 +23,8 @@ fn answer_up(state: &[u8], out: &mut [u8], host: u8) -> usize
 
 // RV: "the host is up".
 pub fn take_recover(state: &mut [u8], out: &mut [u8], host: u8) -> usize
-    requires { ⌜ Said (now state) × (host < hosts) × (hostUp (decode (now state)) host ≡ false) × (headSize + valueSize ≤ length (now out)) ⌝ }
-    ensures { λ r. ⌜ Effected (effect (decode (now (state .entry))) (recover host)) (now (state .exit)) (now (out .entry)) (now (out .exit)) r ⌝ }
+    requires { ⌜ IsStored (now state) × (host < hosts) × (hostUp (decode (now state)) host ≡ false) × (headSize + valueSize ≤ length (now out)) ⌝ }
+    ensures { λ r. ⌜ Turned (effect (decode (now (state .entry))) (recover host)) (now (out .entry)) (now (state .exit)) (now (out .exit)) r ⌝ }
 {
     records::recover(state, host);
     answer_up(state, out, host)
@@ -33,9 +32,9 @@ pub fn take_recover(state: &mut [u8], out: &mut [u8], host: u8) -> usize
 
 // CR: "it has crashed".
 pub fn take_crash(state: &mut [u8], out: &mut [u8], host: u8) -> usize
-    requires { ⌜ Said (now state) × (host < hosts) × (hostUp (decode (now state)) host ≡ true)
+    requires { ⌜ IsStored (now state) × (host < hosts) × (hostUp (decode (now state)) host ≡ true)
         × (length ((decode (now state)) .tuples) + length (failureTuples (decode (now state)) host) ≤ mostTuples) × (headSize + valueSize ≤ length (now out)) ⌝ }
-    ensures { λ r. ⌜ Effected (effect (decode (now (state .entry))) (crash host)) (now (state .exit)) (now (out .entry)) (now (out .exit)) r ⌝ }
+    ensures { λ r. ⌜ Turned (effect (decode (now (state .entry))) (crash host)) (now (out .entry)) (now (state .exit)) (now (out .exit)) r ⌝ }
 {
     records::crash(state, host);
     answer_up(state, out, host)
@@ -43,8 +42,8 @@ pub fn take_crash(state: &mut [u8], out: &mut [u8], host: u8) -> usize
 
 // MO: "a new monitor number".
 pub fn take_monitor(state: &mut [u8], out: &mut [u8], host: u8, process: u16) -> usize
-    requires { ⌜ Said (now state) × T (not (monitorsUsedUp (decode (now state)))) × (headSize + valueSize ≤ length (now out)) ⌝ }
-    ensures { λ r. ⌜ Effected (effect (decode (now (state .entry))) (monitor host process)) (now (state .exit)) (now (out .entry)) (now (out .exit)) r ⌝ }
+    requires { ⌜ IsStored (now state) × T (not (monitorsUsedUp (decode (now state)))) × (headSize + valueSize ≤ length (now out)) ⌝ }
+    ensures { λ r. ⌜ Turned (effect (decode (now (state .entry))) (monitor host process)) (now (out .entry)) (now (state .exit)) (now (out .exit)) r ⌝ }
 {
     let n = records::monitor(state);
     let last = words::word4(state, words::LAST_AT);
@@ -53,9 +52,9 @@ pub fn take_monitor(state: &mut [u8], out: &mut [u8], host: u8, process: u16) ->
 
 // MS: "opens the next space number".
 pub fn take_open(state: &mut [u8], out: &mut [u8], host: u8, process: u16, owned: bool) -> usize
-    requires { ⌜ Said (now state) × T (not (leb mostSpaces (length ((decode (now state)) .spaces)) || leb spaceNumbers ((decode (now state)) .next)))
+    requires { ⌜ IsStored (now state) × T (not (leb mostSpaces (length ((decode (now state)) .spaces)) || leb spaceNumbers ((decode (now state)) .next)))
         × (headSize + valueSize ≤ length (now out)) ⌝ }
-    ensures { λ r. ⌜ Effected (effect (decode (now (state .entry))) (openSpace host process owned)) (now (state .exit)) (now (out .entry)) (now (out .exit)) r ⌝ }
+    ensures { λ r. ⌜ Turned (effect (decode (now (state .entry))) (openSpace host process owned)) (now (out .entry)) (now (state .exit)) (now (out .exit)) r ⌝ }
 {
     let n = records::open_space(state, process, owned);
     let last = words::word4(state, words::LAST_AT);
@@ -64,8 +63,8 @@ pub fn take_open(state: &mut [u8], out: &mut [u8], host: u8, process: u16, owned
 
 // DS: "closes a space, with its tuples".
 pub fn take_close(state: &mut [u8], out: &mut [u8], host: u8, process: u16, space: u8) -> usize
-    requires { ⌜ Said (now state) × T (not (eqb space 0 || someWaitingNames (decode (now state)) space)) × (headSize ≤ length (now out)) ⌝ }
-    ensures { λ r. ⌜ Effected (effect (decode (now (state .entry))) (closeSpace host process space)) (now (state .exit)) (now (out .entry)) (now (out .exit)) r ⌝ }
+    requires { ⌜ IsStored (now state) × T (not (eqb space 0 || someWaitingNames (decode (now state)) space)) × (headSize ≤ length (now out)) ⌝ }
+    ensures { λ r. ⌜ Turned (effect (decode (now (state .entry))) (closeSpace host process space)) (now (out .entry)) (now (state .exit)) (now (out .exit)) r ⌝ }
 {
     records::close_space(state, space);
     let last = words::word4(state, words::LAST_AT);

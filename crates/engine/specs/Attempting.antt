@@ -31,7 +31,8 @@ use Rattle.engine.specs.Performing.{resultIs, Leaves, leaves-failed}
 use Rattle.engine.specs.Codes.{CanPerform}
 use Rattle.engine.specs.Legality.{can-perform, AgreeAfter, perform-agrees}
 use Rattle.engine.specs.Ahead.{operationsAt, Ahead, ahead}
-use Rattle.engine.specs.Branches.{after-guard, statementIn}
+use Rattle.layout.specs.Stored.{statementOf}
+use Rattle.engine.specs.Branches.{after-guard}
 use Rattle.engine.specs.Searching.{branchAt, branch-is, Chosen, Chooses, nothing, chosen-at}
 
 -- ---- a branch

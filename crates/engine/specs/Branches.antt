@@ -19,7 +19,7 @@ use Rattle.model.specs.Statement.{always, Branch, operations, Statement}
 use Rattle.model.specs.Reading.{Reader, _>>=_, give, byte, natural, several, counted, wholeOf, operation, branch, statement}
 use Rattle.model.specs.ReadBack.{Turns, then-some, parse-some}
 use Rattle.model.specs.Legal.{Kinds, noKinds, bindKinds, fieldsOf, legalOperation, legalOperations, isGuard, legalBranch, legalStatement, parse, legalBody}
-use Rattle.layout.specs.States.{noStatement}
+use Rattle.layout.specs.Stored.{statementOf}
 use Rattle.statements.specs.declared.OperationRead.{OperationRead}
 use Rattle.statements.specs.Flat.{operationIs, Reads, fewFields, operationAt}
 use Rattle.engine.specs.Ahead.{is-read, legal-few}
@@ -131,10 +131,6 @@ branch-split b at count h =
 
 -- ---- a body
 
--- the statement that a legal body is
-unfoldable pub statementIn : List ℕ → Statement
-statementIn b = Option·getD (parse b) noStatement
-
 natural-read : (w : ℕ) (s : List ℕ) (n : ℕ) (rest : List ℕ) → natural w s ≡ some (n, rest) → rest ≡ drop w s
 unfolding natural provided
 natural-read w s n rest e = go (leb w (length s)) e
@@ -148,9 +144,9 @@ pub record Body (b : List ℕ) : Type 0 where
   pub long : 3 < length b
   pub short : length b ≤ mostBody
   pub branches : Branches b 4 (getD b 3 0)
-  pub same : branchesAt b 4 (getD b 3 0) ≡ (statementIn b) .branches
+  pub same : branchesAt b 4 (getD b 3 0) ≡ (statementOf b) .branches
 
-body-of : (b : List ℕ) (st : Statement) (rest : List ℕ) → statement b ≡ some (st, rest) → T (legalStatement st) → length b ≤ mostBody → statementIn b ≡ st → Body b
+body-of : (b : List ℕ) (st : Statement) (rest : List ℕ) → statement b ≡ some (st, rest) → T (legalStatement st) → length b ≤ mostBody → statementOf b ≡ st → Body b
 unfolding statement counted legalStatement
 body-of b st rest e l short q =
     let h = then-some (natural hostWidth) (λ h. natural processWidth >>= λ p. counted branch >>= λ bs. give (record { host = h; process = p; branches = bs })) b (st, rest) e in
@@ -179,7 +175,7 @@ whole-read b st e = go (statement b) refl e
 
 -- a legal body
 pub body-is : (b : List ℕ) → T (legalBody b) → Body b
-unfolding legalBody statementIn isSome
+unfolding legalBody statementOf isSome
 body-is b t = go (parse b) refl t
   where
     go : (o : Option Statement) → parse b ≡ o → T (isSome o) → Body b

@@ -28,7 +28,8 @@ use Rattle.tuples.specs.SectionLaws.{read-length, read-drop}
 use Rattle.tuples.specs.Hits.{hits}
 use Rattle.engine.specs.Fields.{fieldsIn}
 use Rattle.engine.specs.Templates.{AsksFor}
-use Rattle.engine.specs.Branches.{branchesAt, Branches, next-branch, leftAt, statementIn, Body}
+use Rattle.layout.specs.Stored.{statementOf}
+use Rattle.engine.specs.Branches.{branchesAt, Branches, next-branch, leftAt, Body}
 
 -- ---- a guard
 
@@ -87,7 +88,7 @@ pub record Seeking (b : List ℕ) (ts : List Tuple) (o : Option (Found Branch)) 
   pub ahead : Branches b at count
   pub same : o ≡ firstFrom (guardHolds ts) i (branchesAt b at count)
 
-pub seek-first : (b : List ℕ) (ts : List Tuple) → Body b → Seeking b ts (chosen ts (statementIn b)) 0 4 (getD b 3 0 - 0)
+pub seek-first : (b : List ℕ) (ts : List Tuple) → Body b → Seeking b ts (chosen ts (statementOf b)) 0 4 (getD b 3 0 - 0)
 unfolding chosen first
 seek-first b ts h = let e : getD b 3 0 - 0 ≡ getD b 3 0 = omega arith in rw e (record { ahead = h .branches; same = ap (firstFrom (guardHolds ts) 0) (sym (h .same)) })
 
@@ -168,7 +169,7 @@ pub record Asking (b : List ℕ) (x : Bool) (at count : ℕ) : Type 0 where
   pub ahead : Branches b at count
   pub same : x ≡ any (λ br. isBlocking (br .guard)) (branchesAt b at count)
 
-pub ask-first : (b : List ℕ) → Body b → Asking b (canWait (statementIn b)) 4 (getD b 3 0 - 0)
+pub ask-first : (b : List ℕ) → Body b → Asking b (canWait (statementOf b)) 4 (getD b 3 0 - 0)
 unfolding canWait
 ask-first b h = let e : getD b 3 0 - 0 ≡ getD b 3 0 = omega arith in rw e (record { ahead = h .branches; same = ap (any (λ (br : Branch). isBlocking (br .guard))) (sym (h .same)) })
 

@@ -24,7 +24,8 @@ ghost use Rattle.engine.specs.Making.{givenIs, Summable, CanMake, madeBy
 ghost use Rattle.engine.specs.Performing.{Leaves, lookUp, CanDeposit};
 ghost use Rattle.engine.specs.Codes.{CanPerform};
 ghost use Rattle.engine.specs.Ahead.{operationsAt, Ahead};
-ghost use Rattle.engine.specs.Branches.{leftAt, Stand, statementIn};
+ghost use Rattle.layout.specs.Stored.{statementOf};
+ghost use Rattle.engine.specs.Branches.{leftAt, Stand};
 ghost use Rattle.engine.specs.Attempting.{Attempted};
 ghost use Rattle.engine.specs.Searching.{branchAt, Chosen, Chooses};
 use statements::Field;
@@ -422,7 +423,7 @@ pub struct Choice {
 // Rule 2: "The branch search stops at the first branch whose guard finds a tuple or is true".
 pub fn search(tuples: &[u8], n: usize, body: &[u8]) -> Choice
     requires { ⌜ (length (now tuples) ≡ tuplesSize) × (n ≤ mostTuples) × T (legalBody (now body)) ⌝ }
-    ensures { λ r. ⌜ Chooses (now (body .entry)) (chosen (tuplesOf (now (tuples .entry)) n) (statementIn (now (body .entry)))) (r .branch) (r .at) ⌝ }
+    ensures { λ r. ⌜ Chooses (now (body .entry)) (chosen (tuplesOf (now (tuples .entry)) n) (statementOf (now (body .entry)))) (r .branch) (r .at) ⌝ }
 {
     let count = body[BRANCH_COUNT_AT];
     let mut branch = 0;
@@ -454,7 +455,7 @@ pub fn search(tuples: &[u8], n: usize, body: &[u8]) -> Choice
 // "finds a tuple or is true": whether some guard of a statement holds.
 pub fn ready(tuples: &[u8], n: usize, body: &[u8]) -> bool
     requires { ⌜ (length (now tuples) ≡ tuplesSize) × (n ≤ mostTuples) × T (legalBody (now body)) ⌝ }
-    ensures { λ r. ⌜ r ≡ ready (tuplesOf (now (tuples .entry)) n) (statementIn (now (body .entry))) ⌝ }
+    ensures { λ r. ⌜ r ≡ ready (tuplesOf (now (tuples .entry)) n) (statementOf (now (body .entry))) ⌝ }
 {
     search(tuples, n, body).branch != 0
 }
@@ -462,7 +463,7 @@ pub fn ready(tuples: &[u8], n: usize, body: &[u8]) -> bool
 // "the statement waits when some guard is in or rd".
 pub fn can_wait(body: &[u8]) -> bool
     requires { ⌜ T (legalBody (now body)) ⌝ }
-    ensures { λ r. ⌜ r ≡ canWait (statementIn (now (body .entry))) ⌝ }
+    ensures { λ r. ⌜ r ≡ canWait (statementOf (now (body .entry))) ⌝ }
 {
     let count = body[BRANCH_COUNT_AT];
     let mut at = BRANCHES_AT;
@@ -511,7 +512,7 @@ pub struct Ran {
 // Rules 2 to 5, whole or not at all: the branch runs on a copy of the tuples, which is written back where it is done.
 pub fn attempt(tuples: &mut [u8], n: usize, body: &[u8]) -> Ran
     requires { ⌜ Section (now tuples) n × T (legalBody (now body)) ⌝ }
-    ensures { λ r. ⌜ Attempted (attempt (tuplesOf (now (tuples .entry)) n) (statementIn (now (body .entry)))) (tuplesOf (now (tuples .entry)) n) (r .branch) (r .outcome) (r .n) (r .vars) (now (tuples .exit)) ⌝ }
+    ensures { λ r. ⌜ Attempted (attempt (tuplesOf (now (tuples .entry)) n) (statementOf (now (body .entry)))) (tuplesOf (now (tuples .entry)) n) (r .branch) (r .outcome) (r .n) (r .vars) (now (tuples .exit)) ⌝ }
 {
     let choice = search(tuples, n, body);
     if choice.branch == 0 {

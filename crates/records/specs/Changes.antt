@@ -36,7 +36,7 @@ use Rattle.tuples.specs.Section.{Legal, entryBytes, Holds, Section, tuplesArea,
 use Rattle.tuples.specs.SectionLaws.{holds-length, reads, section}
 use Rattle.records.specs.Areas.{area-more}
 use Rattle.records.specs.Parts.{Parts, headOf, headRun, spacesArea, waitingArea, parts-encode, put-last, put-up, put-monitors, put-next, put-space-count, put-tuple-count, put-waiting-count, over-head, over-spaces, over-tuples, over-waiting, part-spaces}
-use Rattle.records.specs.Stored.{Stored, Said}
+use Rattle.layout.specs.Stored.{Stored, IsStored}
 use Rattle.records.specs.StoredLaws.{stored-says, stored-parts, stored-length, stored-tuples, space-count, tuple-count, waiting-count}
 use Rattle.records.specs.Queue.{waitingOf, Queued, ofOther, enqueued}
 use Rattle.records.specs.QueueLaws.{queued-length, queued-reads, stored-queue, queue-more}
@@ -44,7 +44,7 @@ use Rattle.records.specs.SpaceList.{spacesOf, Listed, otherThan, listed-
 
 -- ---- the numbers of the header
 
-pub last-changed : (b b′ : List ℕ) (n : ℕ) → Said b → (decode b) .last ≤ n → n < positions → b′ ≡ over b lastAt (bigEndian positionWidth n) positionWidth → Stored b′ (withLast (decode b) n)
+pub last-changed : (b b′ : List ℕ) (n : ℕ) → IsStored b → (decode b) .last ≤ n → n < positions → b′ ≡ over b lastAt (bigEndian positionWidth n) positionWidth → Stored b′ (withLast (decode b) n)
 last-changed b b′ n h above four e =
     let s : Run = decode b in
     let s′ : Run = withLast s n in
@@ -73,7 +73,7 @@ unfolding hostUp decode
 up-at b u h x e k = ap (λ (n : ℕ). getD (bits hosts n) h false) e ∙ k
 
 -- a host comes up
-pub recovers : (b b′ : List ℕ) (u m h : ℕ) → Said b → u ≡ numberAt maskAt maskWidth b → m ≡ mask (set (bits hosts u) h true) → b′ ≡ over b maskAt (bigEndian maskWidth m) maskWidth → Stored b′ (recovered (decode b) h)
+pub recovers : (b b′ : List ℕ) (u m h : ℕ) → IsStored b → u ≡ numberAt maskAt maskWidth b → m ≡ mask (set (bits hosts u) h true) → b′ ≡ over b maskAt (bigEndian maskWidth m) maskWidth → Stored b′ (recovered (decode b) h)
 unfolding recovered
 recovers b b′ u m h i eu em e =
     let us : List Bool = set ((decode b) .up) h true in
@@ -94,7 +94,7 @@ down-fit s h f t = record {
       record { early = q .early; late = q .late; written = q .written; host = rw (getD-set-other (s .up) h (w .statement .host) false false d) (q .host); named = q .named; waits = q .waits });
 }
 
-pub goes-down : (b b′ : List ℕ) (u m h : ℕ) → Said b → T (all (ofOther h) ((decode b) .waiting)) → u ≡ numberAt maskAt maskWidth b → m ≡ mask (set (bits hosts u) h false) → b′ ≡ over b maskAt (bigEndian maskWidth m) maskWidth
+pub goes-down : (b b′ : List ℕ) (u m h : ℕ) → IsStored b → T (all (ofOther h) ((decode b) .waiting)) → u ≡ numberAt maskAt maskWidth b → m ≡ mask (set (bits hosts u) h false) → b′ ≡ over b maskAt (bigEndian maskWidth m) maskWidth
     → Stored b′ (withUp (decode b) (set ((decode b) .up) h false))
 goes-down b b′ u m h i t eu em e =
     let us : List Bool = set ((decode b) .up) h false in
@@ -114,7 +114,7 @@ pub monitors-is : (b : List ℕ) → (decode b) .monitors ≡ getD b monitorsAt 
 unfolding decode byteAt
 monitors-is b = refl
 
-pub monitored : (b : List ℕ) (n : ℕ) → Said b → T (not (monitorsUsedUp (decode b))) → n ≡ nextMonitor (decode b) → Stored (set b monitorsAt n) (withMonitors (decode b) (nextMonitor (decode b)))
+pub monitored : (b : List ℕ) (n : ℕ) → IsStored b → T (not (monitorsUsedUp (decode b))) → n ≡ nextMonitor (decode b) → Stored (set b monitorsAt n) (withMonitors (decode b) (nextMonitor (decode b)))
 monitored b n h t e =
     let s : Run = decode b in
     let s′ : Run = withMonitors s (nextMonitor s) in
@@ -177,16 +177,16 @@ left-fit s i f = record { last = f .last; hosts = f .hosts; monitors = f .monito
 -- ---- the queue in the state
 
 -- the queue that the bytes say, as it is lent
-pub said-queue : (b : List ℕ) (n : ℕ) → Said b → n ≡ getD b waitingCountAt 0 → Queued (take waitingAllSize (drop waitingAt b)) n ((decode b) .waiting)
+pub said-queue : (b : List ℕ) (n : ℕ) → IsStored b → n ≡ getD b waitingCountAt 0 → Queued (take waitingAllSize (drop waitingAt b)) n ((decode b) .waiting)
 said-queue b n h e = rw (e ∙ waiting-count b) (stored-queue b (decode b) h)
 
-pub leaves : (b x : List ℕ) (n i : ℕ) → Said b → n ≡ getD b waitingCountAt 0 → Queued x (n - 1) (removeAt i (waitingOf (take waitingAllSize (drop waitingAt b)) n))
+pub leaves : (b x : List ℕ) (n i : ℕ) → IsStored b → n ≡ getD b waitingCountAt 0 → Queued x (n - 1) (removeAt i (waitingOf (take waitingAllSize (drop waitingAt b)) n))
     → Stored (set (putMid waitingAt waitingAllSize b x) waitingCountAt (n - 1)) (withWaiting (decode b) (removeAt i ((decode b) .waiting)))
 leaves b x n i h e q =
     let r = queued-reads (take waitingAllSize (drop waitingAt b)) n ((decode b) .waiting) (said-queue b n h e) in
     waiting-changed b x (decode b) (n - 1) (removeAt i ((decode b) .waiting)) h (rw r at q) (left-fit (decode b) i (h .fit))
 
-pub drops : (b x : List ℕ) (n left h : ℕ) → Said b → n ≡ getD b waitingCountAt 0 → Queued x left (keep (ofOther h) (waitingOf (take waitingAllSize (drop waitingAt b)) n))
+pub drops : (b x : List ℕ) (n left h : ℕ) → IsStored b → n ≡ getD b waitingCountAt 0 → Queued x left (keep (ofOther h) (waitingOf (take waitingAllSize (drop waitingAt b)) n))
     → Stored (set (putMid waitingAt waitingAllSize b x) waitingCountAt left) (withWaiting (decode b) (keep (ofOther h) ((decode b) .waiting)))
 drops b x n left h i e q =
     let r = queued-reads (take waitingAllSize (drop waitingAt b)) n ((decode b) .waiting) (said-queue b n i e) in
@@ -197,7 +197,7 @@ member-last [] w = List·Memᴰ·head refl
 member-last (v ∷ l) w = List·Memᴰ·tail (member-last l w)
 
 -- a statement waits
-pub enqueues : (b x : List ℕ) (n last : ℕ) (st : Statement) → Said b → n ≡ getD b waitingCountAt 0 → n < mostWaiting → last ≡ numberAt lastAt positionWidth b
+pub enqueues : (b x : List ℕ) (n last : ℕ) (st : Statement) → IsStored b → n ≡ getD b waitingCountAt 0 → n < mostWaiting → last ≡ numberAt lastAt positionWidth b
     → x ≡ over (take waitingAllSize (drop waitingAt b)) (n * waitingSize) (bigEndian 4 last ++ (bigEndian 2 (length (statementBytes st)) ++ statementBytes st)) (6 + length (statementBytes st))
     → Fit (enqueued (decode b) st) → Stored (set (putMid waitingAt waitingAllSize b x) waitingCountAt (n + 1)) (enqueued (decode b) st)
 unfolding decode
@@ -294,10 +294,10 @@ unfolding failureTuples monitorNumbers decode byteAt
 failures-is b h = refl
 
 -- the tuples that the bytes say, as they are lent
-pub said-tuples : (b : List ℕ) (n : ℕ) → Said b → n ≡ numberAt tupleCountAt tupleCountWidth b → Holds (take tuplesSize (drop tuplesAt b)) n ((decode b) .tuples)
+pub said-tuples : (b : List ℕ) (n : ℕ) → IsStored b → n ≡ numberAt tupleCountAt tupleCountWidth b → Holds (take tuplesSize (drop tuplesAt b)) n ((decode b) .tuples)
 said-tuples b n h e = rw (e ∙ tuple-count b) (stored-tuples b (decode b) h)
 
-pub fails : (b x b′ : List ℕ) (n m h : ℕ) → Said b → h < hosts → length ((decode b) .tuples) + length (failureTuples (decode b) h) ≤ mostTuples
+pub fails : (b x b′ : List ℕ) (n m h : ℕ) → IsStored b → h < hosts → length ((decode b) .tuples) + length (failureTuples (decode b) h) ≤ mostTuples
     → n ≡ numberAt tupleCountAt tupleCountWidth b → m ≡ getD b monitorsAt 0 → Holds x (n + m) (tuplesOf (take tuplesSize (drop tuplesAt b)) n ++ failures h m)
     → b′ ≡ over (putMid tuplesAt tuplesSize b x) tupleCountAt (bigEndian tupleCountWidth (n + m)) tupleCountWidth
     → Stored b′ (withTuples (decode b) ((decode b) .tuples ++ failureTuples (decode b) h))
@@ -313,7 +313,7 @@ pub record Counts (b : List ℕ) (n m h : ℕ) : Type 0 where
   pub room : n + m ≤ mostTuples
   pub monitors : m ≤ mostMonitors
 
-pub counts : (b : List ℕ) (n m h : ℕ) → Said b → length ((decode b) .tuples) + length (failureTuples (decode b) h) ≤ mostTuples → n ≡ numberAt tupleCountAt tupleCountWidth b → m ≡ getD b monitorsAt 0 → Counts b n m h
+pub counts : (b : List ℕ) (n m h : ℕ) → IsStored b → length ((decode b) .tuples) + length (failureTuples (decode b) h) ≤ mostTuples → n ≡ numberAt tupleCountAt tupleCountWidth b → m ≡ getD b monitorsAt 0 → Counts b n m h
 counts b n m h i room e em = record {
   tuples = section _ n ((decode b) .tuples) (said-tuples b n i e);
   room = omega (arith, failures-count b h, tuple-count b);
@@ -381,7 +381,7 @@ space-wide a = go (a .access)
     go shared = refl
     go (private p) = refl
 
-pub spaces-length : (b : List ℕ) → Said b → length (take spacesSize (drop spacesAt b)) ≡ spacesSize
+pub spaces-length : (b : List ℕ) → IsStored b → length (take spacesSize (drop spacesAt b)) ≡ spacesSize
 unfolding spacesArea
 spaces-length b h = ap length (part-spaces b _ _ _ _ (stored-parts b (decode b) h)) ∙ area-length spacesSize spaceSize spaceBytes ((decode b) .spaces)
 
@@ -402,7 +402,7 @@ room b t =
       number = omega (arith, next-is b, nleb→lt spaceNumbers ((decode b) .next) (k .1));
     }
 
-pub opens : (b x b₂ : List ℕ) (n next p : ℕ) (isPrivate : Bool) → Said b → T (not (leb mostSpaces (length ((decode b) .spaces)) || leb spaceNumbers ((decode b) .next))) → p < processes
+pub opens : (b x b₂ : List ℕ) (n next p : ℕ) (isPrivate : Bool) → IsStored b → T (not (leb mostSpaces (length ((decode b) .spaces)) || leb spaceNumbers ((decode b) .next))) → p < processes
     → n ≡ getD b spaceCountAt 0 → next ≡ numberAt nextAt nextWidth b
     → x ≡ over (take spacesSize (drop spacesAt b)) (n * spaceSize) (spaceBytes (record { number = next; access = cond isPrivate (private p) shared })) spaceSize
     → b₂ ≡ over (set (putMid spacesAt spacesSize b x) spaceCountAt (n + 1)) nextAt (bigEndian nextWidth (next + 1)) nextWidth
@@ -455,7 +455,7 @@ kept-tuples-fit s p f = record {
   waiting = f .waiting;
 }
 
-pub clears : (b x b′ : List ℕ) (n left m : ℕ) → Said b → n ≡ numberAt tupleCountAt tupleCountWidth b → Holds x left (keep (outside m) (tuplesOf (take tuplesSize (drop tuplesAt b)) n))
+pub clears : (b x b′ : List ℕ) (n left m : ℕ) → IsStored b → n ≡ numberAt tupleCountAt tupleCountWidth b → Holds x left (keep (outside m) (tuplesOf (take tuplesSize (drop tuplesAt b)) n))
     → b′ ≡ over (putMid tuplesAt tuplesSize b x) tupleCountAt (bigEndian tupleCountWidth left) tupleCountWidth → Stored b′ (withTuples (decode b) (keep (outside m) ((decode b) .tuples)))
 clears b x b′ n left m h e k stored =
     let r = reads (take tuplesSize (drop tuplesAt b)) n ((decode b) .tuples) (said-tuples b n h e) in
@@ -489,10 +489,10 @@ unfolding closed
 empty-fit s n f e t = subst (λ (ts : List Tuple). Fit (withTuples (withSpaces s (s .next) (keep (otherThan n) (s .spaces))) ts)) (keep-all (outside n) (s .tuples) e) (closed-fit s f n t)
 
 -- the spaces that the bytes say, as they are lent
-pub said-spaces : (b : List ℕ) (n : ℕ) → Said b → n ≡ getD b spaceCountAt 0 → Listed (take spacesSize (drop spacesAt b)) n ((decode b) .spaces)
+pub said-spaces : (b : List ℕ) (n : ℕ) → IsStored b → n ≡ getD b spaceCountAt 0 → Listed (take spacesSize (drop spacesAt b)) n ((decode b) .spaces)
 said-spaces b n h e = rw (e ∙ space-count b) (stored-spaces b (decode b) h)
 
-pub unlists : (b x : List ℕ) (n left m : ℕ) → Said b → T (all (outside m) ((decode b) .tuples)) → T (not (eqb m 0 || someWaitingNames (decode b) m)) → n ≡ getD b spaceCountAt 0
+pub unlists : (b x : List ℕ) (n left m : ℕ) → IsStored b → T (all (outside m) ((decode b) .tuples)) → T (not (eqb m 0 || someWaitingNames (decode b) m)) → n ≡ getD b spaceCountAt 0
     → Listed x left (keep (otherThan m) (spacesOf (take spacesSize (drop spacesAt b)) n))
     → Stored (set (putMid spacesAt spacesSize b x) spaceCountAt left) (withSpaces (decode b) ((decode b) .next) (keep (otherThan m) ((decode b) .spaces)))
 unlists b x n left m h empty t e q =

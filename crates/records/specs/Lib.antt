@@ -1,7 +1,6 @@
 pub mod Areas
 pub mod Filled
 pub mod Parts
-pub mod Stored
 pub mod StoredLaws
 pub mod Queue
 pub mod QueueLaws

@@ -22,7 +22,7 @@ use Rattle.words.specs.Over.{over}
 use Rattle.words.specs.OverLaws.{over-append}
 use Rattle.records.specs.Filled.{filled-length, filled-cut, filled-more, entry-lawful, entry-byte, filled-reads, filled, Dropping, dropping-none, dropping-cut, dropping-kept, dropping-end}
 use Rattle.records.specs.Parts.{waitingArea, part-waiting}
-use Rattle.records.specs.Stored.{Stored}
+use Rattle.layout.specs.Stored.{Stored}
 use Rattle.records.specs.StoredLaws.{stored-parts}
 use Rattle.records.specs.Queue.{Lawful, waitingOf, Queued, ofOther}
 

@@ -17,7 +17,7 @@ use Rattle.layout.specs.StateLaws.{space-back}
 use Rattle.words.specs.Over.{over}
 use Rattle.records.specs.Filled.{Filled, filled-length, filled-cut, entry-lawful, entry-byte, filled-reads, filled, Dropping, dropping-none, dropping-cut, dropping-kept, dropping-end}
 use Rattle.records.specs.Parts.{spacesArea, part-spaces}
-use Rattle.records.specs.Stored.{Stored}
+use Rattle.layout.specs.Stored.{Stored}
 use Rattle.records.specs.StoredLaws.{stored-parts}
 
 -- an entry that is read back

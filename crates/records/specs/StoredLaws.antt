@@ -18,7 +18,7 @@ use Rattle.layout.specs.StateLaws.{area-read, map-back, space-back, tuple-back,
 use Rattle.tuples.specs.Rows.{pieces-length}
 use Rattle.tuples.specs.Section.{Legal, Holds, tuplesArea}
 use Rattle.records.specs.Parts.{Parts, headRun, spacesArea, waitingArea, encode-parts, part-tuples}
-use Rattle.records.specs.Stored.{Stored, Said}
+use Rattle.layout.specs.Stored.{Stored, IsStored}
 
 -- ---- read back
 
@@ -91,7 +91,7 @@ decode-fit s f =
 pub stored-says : (b : List ℕ) (s : Run) → Stored b s → decode b ≡ s
 stored-says b s h = ap decode (h .bytes) ∙ decode-fit s (h .fit)
 
-pub said : (b : List ℕ) (s : Run) → Stored b s → Said b
+pub said : (b : List ℕ) (s : Run) → Stored b s → IsStored b
 said b s h = rw (stored-says b s h) h
 
 -- ---- what the code reads

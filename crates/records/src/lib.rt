@@ -16,14 +16,14 @@ ghost use Rattle.model.specs.Fit.{Fit};
 ghost use Rattle.layout.specs.States.{spaceBytes, decode};
 ghost use Rattle.words.specs.Over.{over};
 ghost use Rattle.tuples.specs.Section.{entryBytes, tuplesOf, Holds, Section};
-ghost use Rattle.records.specs.Stored.{Stored, Said};
+ghost use Rattle.layout.specs.Stored.{Stored, IsStored};
 ghost use Rattle.records.specs.Queue.{waitingOf, Queued, ofOther, enqueued};
 ghost use Rattle.records.specs.SpaceList.{spacesOf, Listed, otherThan};
 ghost use Rattle.records.specs.Changes.{failures, opening, outside};
 
 // "A step sets the last number".
 pub fn set_last(state: &mut [u8], position: u32)
-    requires { ⌜ Said (now state) × ((decode (now state)) .last ≤ position) ⌝ }
+    requires { ⌜ IsStored (now state) × ((decode (now state)) .last ≤ position) ⌝ }
     ensures { λ _. ⌜ Stored (now (state .exit)) (withLast (decode (now (state .entry))) position) ⌝ }
 {
     words::put4(state, words::LAST_AT, position);
@@ -31,7 +31,7 @@ pub fn set_last(state: &mut [u8], position: u32)
 
 // "RV adds the host".
 pub fn recover(state: &mut [u8], host: u8)
-    requires { ⌜ Said (now state) × (host < hosts) × (hostUp (decode (now state)) host ≡ false) ⌝ }
+    requires { ⌜ IsStored (now state) × (host < hosts) × (hostUp (decode (now state)) host ≡ false) ⌝ }
     ensures { λ _. ⌜ Stored (now (state .exit)) (recovered (decode (now (state .entry))) host) ⌝ }
 {
     let up = words::word2(state, words::MASK_AT);
@@ -40,7 +40,7 @@ pub fn recover(state: &mut [u8], host: u8)
 
 // "CR removes it", once no statement of the host waits.
 fn host_down(state: &mut [u8], host: u8)
-    requires { ⌜ Said (now state) × (host < hosts) × (hostUp (decode (now state)) host ≡ true) × T (all (ofOther host) ((decode (now state)) .waiting)) ⌝ }
+    requires { ⌜ IsStored (now state) × (host < hosts) × (hostUp (decode (now state)) host ≡ true) × T (all (ofOther host) ((decode (now state)) .waiting)) ⌝ }
     ensures { λ _. ⌜ Stored (now (state .exit)) (withUp (decode (now (state .entry))) (set ((decode (now (state .entry))) .up) host false)) ⌝ }
 {
     let up = words::word2(state, words::MASK_AT);
@@ -49,7 +49,7 @@ fn host_down(state: &mut [u8], host: u8)
 
 // "MO adds one to the count"; the new number.
 pub fn monitor(state: &mut [u8]) -> u8
-    requires { ⌜ Said (now state) × T (not (monitorsUsedUp (decode (now state)))) ⌝ }
+    requires { ⌜ IsStored (now state) × T (not (monitorsUsedUp (decode (now state)))) ⌝ }
     ensures { λ r. ⌜ (r ≡ nextMonitor (decode (now (state .entry)))) × Stored (now (state .exit)) (withMonitors (decode (now (state .entry))) (nextMonitor (decode (now (state .entry))))) ⌝ }
 {
     let n = state[words::MONITORS_AT] + 1;
@@ -73,7 +73,7 @@ fn cut(waiting: &mut [u8], n: usize, i: usize)
 
 // "runs and leaves the queue": the waiting statement at index i.
 pub fn leave(state: &mut [u8], i: usize)
-    requires { ⌜ Said (now state) × (i < length ((decode (now state)) .waiting)) ⌝ }
+    requires { ⌜ IsStored (now state) × (i < length ((decode (now state)) .waiting)) ⌝ }
     ensures { λ _. ⌜ Stored (now (state .exit)) (withWaiting (decode (now (state .entry))) (removeAt i ((decode (now (state .entry))) .waiting))) ⌝ }
 {
     let n = words::size(state[words::WAITING_COUNT_AT]);
@@ -101,7 +101,7 @@ fn drop_host(waiting: &mut [u8], n: usize, host: u8) -> usize
 
 // The same in the state.
 fn drop_waiting(state: &mut [u8], host: u8)
-    requires { ⌜ Said (now state) ⌝ }
+    requires { ⌜ IsStored (now state) ⌝ }
     ensures { λ _. ⌜ Stored (now (state .exit)) (withWaiting (decode (now (state .entry))) (keep (ofOther host) ((decode (now (state .entry))) .waiting))) ⌝ }
 {
     let n = words::size(state[words::WAITING_COUNT_AT]);
@@ -122,7 +122,7 @@ fn put_waiting(waiting: &mut [u8], n: usize, position: u32, body: &[u8])
 
 // The statement "waits without a reply", at the last position.
 pub fn enqueue(state: &mut [u8], body: &[u8])
-    requires { ⌜ Said (now state) × (length ((decode (now state)) .waiting) < mostWaiting) × (length (now body) ≤ mostBody) ⌝ }
+    requires { ⌜ IsStored (now state) × (length ((decode (now state)) .waiting) < mostWaiting) × (length (now body) ≤ mostBody) ⌝ }
     ensures { λ _. ⌜ ((st : Statement) → statementBytes st ≡ now (body .entry) → Fit (enqueued (decode (now (state .entry))) st)
         → Stored (now (state .exit)) (enqueued (decode (now (state .entry))) st)) ⌝ }
 {
@@ -160,7 +160,7 @@ fn append_failures(tuples: &mut [u8], n: usize, host: u8, monitors: usize)
 
 // The same in the state.
 fn fail(state: &mut [u8], host: u8)
-    requires { ⌜ Said (now state) × (host < hosts) × (length ((decode (now state)) .tuples) + length (failureTuples (decode (now state)) host) ≤ mostTuples) ⌝ }
+    requires { ⌜ IsStored (now state) × (host < hosts) × (length ((decode (now state)) .tuples) + length (failureTuples (decode (now state)) host) ≤ mostTuples) ⌝ }
     ensures { λ _. ⌜ Stored (now (state .exit)) (withTuples (decode (now (state .entry))) ((decode (now (state .entry))) .tuples ++ failureTuples (decode (now (state .entry))) host)) ⌝ }
 {
     let n = words::word2(state, words::TUPLE_COUNT_AT) as usize;
@@ -176,7 +176,7 @@ fn fail(state: &mut [u8], host: u8)
 
 // Rule 6: a crash.
 pub fn crash(state: &mut [u8], host: u8)
-    requires { ⌜ Said (now state) × (host < hosts) × (hostUp (decode (now state)) host ≡ true)
+    requires { ⌜ IsStored (now state) × (host < hosts) × (hostUp (decode (now state)) host ≡ true)
         × (length ((decode (now state)) .tuples) + length (failureTuples (decode (now state)) host) ≤ mostTuples) ⌝ }
     ensures { λ _. ⌜ Stored (now (state .exit)) (crashed (decode (now (state .entry))) host) ⌝ }
 {
@@ -203,7 +203,7 @@ fn put_space(spaces: &mut [u8], n: usize, number: u8, process: u16, owned: bool)
 
 // "MS opens the next space number and steps it on"; that number.
 pub fn open_space(state: &mut [u8], process: u16, owned: bool) -> u16
-    requires { ⌜ Said (now state) × T (not (leb mostSpaces (length ((decode (now state)) .spaces)) || leb spaceNumbers ((decode (now state)) .next))) ⌝ }
+    requires { ⌜ IsStored (now state) × T (not (leb mostSpaces (length ((decode (now state)) .spaces)) || leb spaceNumbers ((decode (now state)) .next))) ⌝ }
     ensures { λ r. ⌜ (r ≡ (decode (now (state .entry))) .next) × Stored (now (state .exit)) (opened (decode (now (state .entry))) process owned) ⌝ }
 {
     let n = words::size(state[words::SPACE_COUNT_AT]);
@@ -254,7 +254,7 @@ fn drop_number(spaces: &mut [u8], n: usize, number: u8) -> usize
 
 // "and its tuples".
 fn close_tuples(state: &mut [u8], space: u8)
-    requires { ⌜ Said (now state) ⌝ }
+    requires { ⌜ IsStored (now state) ⌝ }
     ensures { λ _. ⌜ Stored (now (state .exit)) (withTuples (decode (now (state .entry))) (keep (outside space) ((decode (now (state .entry))) .tuples))) ⌝ }
 {
     let n = words::word2(state, words::TUPLE_COUNT_AT) as usize;
@@ -268,7 +268,7 @@ fn close_tuples(state: &mut [u8], space: u8)
 
 // A space with no tuples, which no waiting statement names, is taken from the list.
 fn close_entry(state: &mut [u8], space: u8)
-    requires { ⌜ Said (now state) × T (all (outside space) ((decode (now state)) .tuples)) × T (not (eqb space 0 || someWaitingNames (decode (now state)) space)) ⌝ }
+    requires { ⌜ IsStored (now state) × T (all (outside space) ((decode (now state)) .tuples)) × T (not (eqb space 0 || someWaitingNames (decode (now state)) space)) ⌝ }
     ensures { λ _. ⌜ Stored (now (state .exit)) (withSpaces (decode (now (state .entry))) ((decode (now (state .entry))) .next) (keep (otherThan space) ((decode (now (state .entry))) .spaces))) ⌝ }
 {
     let n = words::size(state[words::SPACE_COUNT_AT]);
@@ -278,7 +278,7 @@ fn close_entry(state: &mut [u8], space: u8)
 
 // "closes a space, with its tuples".
 pub fn close_space(state: &mut [u8], space: u8)
-    requires { ⌜ Said (now state) × T (not (eqb space 0 || someWaitingNames (decode (now state)) space)) ⌝ }
+    requires { ⌜ IsStored (now state) × T (not (eqb space 0 || someWaitingNames (decode (now state)) space)) ⌝ }
     ensures { λ _. ⌜ Stored (now (state .exit)) (closed (decode (now (state .entry))) space) ⌝ }
 {
     close_tuples(state, space);

@@ -15,25 +15,8 @@ use Rattle.basis.specs.Sizes.{hostWidth, processWidth}
 use Rattle.model.specs.Statement.{Branch, Statement}
 use Rattle.model.specs.Reading.{Reader, _>>=_, give, several, counted, wholeOf, branch, statement}
 use Rattle.model.specs.Legal.{parse, legalBody}
-use Rattle.layout.specs.States.{noStatement}
 use Rattle.statements.specs.At.{which}
 use Rattle.statements.specs.Fixed.{fixed-natural, fixed-byte}
-
--- the statement that a legal body is
-unfoldable pub statementOf : List ℕ → Statement
-statementOf b = Option·getD (parse b) noStatement
-
-pub statement-of : (b : List ℕ) (st : Statement) → parse b ≡ some st → statementOf b ≡ st
-unfolding statementOf
-statement-of b st e = rw e
-
-pub legal-parse : (b : List ℕ) → T (legalBody b) → parse b ≡ some (statementOf b)
-unfolding legalBody isSome statementOf
-legal-parse b t = go (parse b) t
-  where
-    go : (o : Option Statement) → T (isSome o) → o ≡ some (Option·getD o noStatement)
-    go none t = absurd t
-    go (some st) t = refl
 
 -- host, process, branch count, branches
 pub record Head (b : List ℕ) (st : Statement) : Type 0 where

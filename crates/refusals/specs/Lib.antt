@@ -1,5 +1,5 @@
 pub mod Entries
-pub mod Stored
+pub mod Places
 pub mod Head
 pub mod Queue
 pub mod Refusal

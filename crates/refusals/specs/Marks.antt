@@ -17,7 +17,8 @@ use Rattle.model.specs.Run.{shared, private, Space, isOpen, deniedTo, isDenied}
 use Rattle.layout.specs.States.{byteAt, spaceRead, decode}
 use Rattle.words.specs.WordLaws.{numberAt-1}
 use Rattle.refusals.specs.Entries.{number-in, entryAt}
-use Rattle.refusals.specs.Stored.{Stored, stored-length, spaces-few, spaces-count, spaceOf, spaces-from}
+use Rattle.layout.specs.Stored.{IsStored}
+use Rattle.refusals.specs.Places.{stored-length, spaces-few, spaces-count, spaceOf, spaces-from}
 use Rattle.refusals.specs.Walk.{marked}
 use Rattle.refusals.specs.WalkLaws.{any-same}
 
@@ -26,7 +27,7 @@ use Rattle.refusals.specs.WalkLaws.{any-same}
 abbrev pub spacePlace : ℕ → ℕ
 spacePlace i = spacesAt + i * spaceSize
 
-pub space-number : (b : List ℕ) (i : ℕ) → Stored b → i < getD b spaceCountAt 0 → getD b (spacePlace i) 0 ≡ spaceOf b i .number
+pub space-number : (b : List ℕ) (i : ℕ) → IsStored b → i < getD b spaceCountAt 0 → getD b (spacePlace i) 0 ≡ spaceOf b i .number
 unfolding spaceOf entryAt spaceRead
 space-number b i h l =
     let e : spacePlace i + 0 ≡ spacePlace i = omega arith in
@@ -119,7 +120,7 @@ pub record Marking (p : ℕ) (denied : Bool) (b : List ℕ) (i : ℕ) (table : L
   pub within : i ≤ getD b spaceCountAt 0
   pub marks : Marks (foundIn p denied (drop i (decode b .spaces))) table
 
-pub marking-start : (p : ℕ) (denied : Bool) (b : List ℕ) (n : ℕ) (table : List ℕ) → Stored b → n ≡ getD b spaceCountAt 0 → table ≡ zeros spaceNumbers → Marking p denied b n table
+pub marking-start : (p : ℕ) (denied : Bool) (b : List ℕ) (n : ℕ) (table : List ℕ) → IsStored b → n ≡ getD b spaceCountAt 0 → table ≡ zeros spaceNumbers → Marking p denied b n table
 unfolding foundIn any byteAt
 marking-start p denied b n table h e z =
     let none : drop n (decode b .spaces) ≡ [] = drop-of-length-le (decode b .spaces) {i = n} (omega (arith, spaces-count b)) in
@@ -130,7 +131,7 @@ marking-start p denied b n table h e z =
       marks = rw (z, none) (marks-none (λ k. false) (λ k. refl));
     }
 
-module _ (p : ℕ) (denied : Bool) (b : List ℕ) (i : ℕ) (table : List ℕ) (h : Stored b) (u : Marking p denied b i table) (l : 0 < i) where
+module _ (p : ℕ) (denied : Bool) (b : List ℕ) (i : ℕ) (table : List ℕ) (h : IsStored b) (u : Marking p denied b i table) (l : 0 < i) where
   found-more : (n : ℕ) → foundIn p denied (drop (i - 1) (decode b .spaces)) n ≡ ((eqb (spaceOf b (i - 1) .number) n && sought p denied (spaceOf b (i - 1))) || foundIn p denied (drop i (decode b .spaces)) n)
   unfolding foundIn any
   found-more n =

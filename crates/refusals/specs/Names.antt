@@ -21,8 +21,10 @@ use Rattle.model.specs.ReadBack.{parse-some}
 use Rattle.model.specs.Step.{checks, standing, access, someWaitingNames, guarded}
 use Rattle.layout.specs.States.{decode}
 use Rattle.words.specs.WordLaws.{numberAt-1}
-use Rattle.refusals.specs.Stored.{Stored, waitingOf, waitingPlace, bodySize, bodyOf, waits-at}
-use Rattle.refusals.specs.Head.{statementOf, statement-of, legal-parse, Head, head-of}
+use Rattle.layout.specs.Stored.{IsStored}
+use Rattle.refusals.specs.Places.{waitingOf, waitingPlace, bodySize, bodyOf, waits-at}
+use Rattle.layout.specs.Stored.{statementOf, statement-of, legal-parse}
+use Rattle.refusals.specs.Head.{Head, head-of}
 use Rattle.refusals.specs.Walk.{marked}
 use Rattle.refusals.specs.WalkLaws.{any-same, named-small}
 use Rattle.refusals.specs.Refusal.{refusal, stops, goes}
@@ -79,7 +81,7 @@ abbrev pub naming : List ℕ → Waiting → Bool
 naming table w = any (marked table 1) (spacesNamed (w .statement))
 
 -- the part of the bytes that is its body
-module _ (b : List ℕ) (i n from : ℕ) (h : Stored b) (l : i < getD b waitingCountAt 0) (e : n ≡ numberAt (waitingPlace i + positionWidth) lengthWidth b) (f : from ≡ waitingPlace i + waitingBodyAt) where
+module _ (b : List ℕ) (i n from : ℕ) (h : IsStored b) (l : i < getD b waitingCountAt 0) (e : n ≡ numberAt (waitingPlace i + positionWidth) lengthWidth b) (f : from ≡ waitingPlace i + waitingBodyAt) where
   pub part-size : n ≤ mostBody
   part-size = unfold bodySize in omega (arith, e, waits-at b i h l .size)
 
@@ -96,7 +98,7 @@ module _ (b : List ℕ) (i n from : ℕ) (h : Stored b) (l : i < getD b waitingC
   part-statement = rw part-body (statement-of (bodyOf b i) (waitingOf b i .statement) (waits-at b i h l .parsed))
 
 -- one space marked: some waiting statement names it
-pub naming-one : (b : List ℕ) (n : ℕ) → Stored b → n < spaceNumbers → any (naming (set (zeros spaceNumbers) n 1)) (decode b .waiting) ≡ someWaitingNames (decode b) n
+pub naming-one : (b : List ℕ) (n : ℕ) → IsStored b → n < spaceNumbers → any (naming (set (zeros spaceNumbers) n 1)) (decode b .waiting) ≡ someWaitingNames (decode b) n
 unfolding someWaitingNames isIn
 naming-one b n h l =
     any-same (naming (set (zeros spaceNumbers) n 1)) (λ w. any (eqb n) (spacesNamed (w .statement))) (decode b .waiting)

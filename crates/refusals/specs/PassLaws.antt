@@ -20,7 +20,8 @@ use Rattle.statements.specs.At.{found}
 use Rattle.statements.specs.Flat.{fieldsAre, operationOf, operationIs, readIs, operationAt}
 use Rattle.statements.specs.declared.Operation.{Operation}
 use Rattle.statements.specs.declared.OperationRead.{OperationRead}
-use Rattle.refusals.specs.Head.{statementOf, legal-parse, head-of}
+use Rattle.layout.specs.Stored.{statementOf, legal-parse}
+use Rattle.refusals.specs.Head.{head-of}
 use Rattle.refusals.specs.Walk.{passOperation, passSeveral, passCounted, passBranch, marked}
 use Rattle.refusals.specs.WalkLaws.{walked}
 

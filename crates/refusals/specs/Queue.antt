@@ -14,11 +14,12 @@ use Rattle.model.specs.Run.{Waiting, isWaiting}
 use Rattle.model.specs.ReadBack.{parse-some}
 use Rattle.layout.specs.States.{byteAt, decode}
 use Rattle.refusals.specs.Entries.{take-most, number-in}
-use Rattle.refusals.specs.Stored.{Stored, stored-length, waiting-few, waitingOf, waiting-from, waiting-count, waitingPlace, bodySize, bodyOf, waits-at}
+use Rattle.layout.specs.Stored.{IsStored}
+use Rattle.refusals.specs.Places.{stored-length, waiting-few, waitingOf, waiting-from, waiting-count, waitingPlace, bodySize, bodyOf, waits-at}
 use Rattle.refusals.specs.Head.{head-of}
 
 -- the process of the waiting statement at an index
-pub process-at : (b : List ℕ) (i : ℕ) → Stored b → i < getD b waitingCountAt 0 → numberAt (waitingPlace i + waitingBodyAt + hostWidth) processWidth b ≡ waitingOf b i .statement .process
+pub process-at : (b : List ℕ) (i : ℕ) → IsStored b → i < getD b waitingCountAt 0 → numberAt (waitingPlace i + waitingBodyAt + hostWidth) processWidth b ≡ waitingOf b i .statement .process
 process-at b i h l =
     let w = waits-at b i h l in
     let body = bodyOf b i in
@@ -38,7 +39,7 @@ pub record Passing (q : Waiting → Bool) (b : List ℕ) (n i : ℕ) : Type 0 wh
   pub within : i ≤ n
   pub rest : any q (decode b .waiting) ≡ someFrom q b i
 
-pub passing-start : (q : Waiting → Bool) (b : List ℕ) (n : ℕ) → Stored b → n ≡ getD b waitingCountAt 0 → Passing q b n 0
+pub passing-start : (q : Waiting → Bool) (b : List ℕ) (n : ℕ) → IsStored b → n ≡ getD b waitingCountAt 0 → Passing q b n 0
 passing-start q b n h e = record { long = stored-length b h; count = e; few = omega (arith, waiting-few b h); within = omega arith; rest = refl }
 
 module _ (q : Waiting → Bool) (b : List ℕ) (n i : ℕ) (u : Passing q b n i) where
@@ -65,7 +66,7 @@ module _ (q : Waiting → Bool) (b : List ℕ) (n i : ℕ) (u : Passing q b n i)
 abbrev pub ofProcess : ℕ → Waiting → Bool
 ofProcess p w = eqb (w .statement .process) p
 
-module _ (p : ℕ) (b : List ℕ) (n i : ℕ) (h : Stored b) (u : Passing (ofProcess p) b n i) where
+module _ (p : ℕ) (b : List ℕ) (n i : ℕ) (h : IsStored b) (u : Passing (ofProcess p) b n i) where
   pub process-on : i < n → (numberAt (waitingPlace i + waitingBodyAt + hostWidth) processWidth b ≡ p → ⊥) → Passing (ofProcess p) b n (i + 1)
   process-on l e = passing-on (ofProcess p) b n i u l (ne-eqb (waitingOf b i .statement .process) p (λ z. e (process-at b i h (omega arith) ∙ z)))
 

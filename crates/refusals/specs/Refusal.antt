@@ -17,7 +17,7 @@ use Rattle.model.specs.Run.{Run, hostUp, isWaiting, isOpen, isDenied, monitorNu
 use Rattle.model.specs.Step.{checks, standing, access, someWaitingNames, failureTuple, failureTuples, recover, crash, monitor, closeSpace}
 use Rattle.layout.specs.States.{byteAt, decode}
 use Rattle.refusals.specs.Entries.{length-map}
-use Rattle.refusals.specs.Stored.{spaces-count, tuples-count}
+use Rattle.refusals.specs.Places.{spaces-count, tuples-count}
 
 abbrev pub numberOr0 : Option ℕ → ℕ
 numberOr0 o = maybe o 0 (λ n. n)

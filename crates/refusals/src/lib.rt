@@ -12,9 +12,10 @@ ghost use Rattle.model.specs.Statement.{spacesOf, spacesNamed};
 ghost use Rattle.model.specs.Legal.{legalBody};
 ghost use Rattle.layout.specs.States.{decode};
 ghost use Rattle.statements.specs.Flat.{operationIs};
-ghost use Rattle.refusals.specs.Head.{statementOf};
+ghost use Rattle.layout.specs.Stored.{statementOf};
 ghost use Rattle.refusals.specs.Walk.{marked, passOperation, passCounted, passBranch};
-ghost use Rattle.refusals.specs.Stored.{Stored, spaceOf, waitingOf};
+ghost use Rattle.layout.specs.Stored.{IsStored};
+ghost use Rattle.refusals.specs.Places.{spaceOf, waitingOf};
 ghost use Rattle.refusals.specs.Marks.{sought, foundIn, Marks};
 ghost use Rattle.refusals.specs.Names.{naming};
 ghost use Rattle.refusals.specs.Refusal.{refusal, usedUp, closing};
@@ -54,7 +55,7 @@ const BRANCHES_AT: usize = 3;
 
 // Whether a host is up.
 pub fn host_is_up(state: &[u8], host: u8) -> bool
-    requires { ⌜ Stored (now state) × (host < hosts) ⌝ }
+    requires { ⌜ IsStored (now state) × (host < hosts) ⌝ }
     ensures { λ r. ⌜ r ≡ hostUp (decode (now (state .entry))) host ⌝ }
 {
     values::host_up(word2(state, MASK_AT), host)
@@ -62,7 +63,7 @@ pub fn host_is_up(state: &[u8], host: u8) -> bool
 
 // Whether a process waits: the bodies of the waiting statements have theirs at one place.
 pub fn process_waits(state: &[u8], process: u16) -> bool
-    requires { ⌜ Stored (now state) ⌝ }
+    requires { ⌜ IsStored (now state) ⌝ }
     ensures { λ r. ⌜ r ≡ isWaiting (decode (now (state .entry))) process ⌝ }
 {
     let n = size(state[WAITING_COUNT_AT]);
@@ -83,7 +84,7 @@ pub fn process_waits(state: &[u8], process: u16) -> bool
 
 // 7, "host not up", and 9, "process waits already".
 fn refuse_standing(state: &[u8], host: u8, process: u16) -> u8
-    requires { ⌜ Stored (now state) × (host < hosts) ⌝ }
+    requires { ⌜ IsStored (now state) × (host < hosts) ⌝ }
     ensures { λ r. ⌜ r ≡ refusal (standing (decode (now (state .entry))) host process) ⌝ }
 {
     if !host_is_up(state, host) {
@@ -114,7 +115,7 @@ fn is_sought(state: &[u8], i: usize, process: u16, denied: bool) -> bool
 
 // Marks the numbers of the spaces that are looked for in a table of zeros.
 fn mark_spaces(state: &[u8], process: u16, denied: bool, table: &mut [u8])
-    requires { ⌜ Stored (now state) × (now table ≡ zeros spaceNumbers) ⌝ }
+    requires { ⌜ IsStored (now state) × (now table ≡ zeros spaceNumbers) ⌝ }
     ensures { λ _. ⌜ Marks (foundIn process denied (decode (now (state .entry)) .spaces)) (now (table .exit)) ⌝ }
 {
     let mut i = size(state[SPACE_COUNT_AT]);
@@ -140,7 +141,7 @@ fn is_marked(table: &[u8], want: u8, space: u16) -> bool
 
 // Whether a space is open.
 pub fn space_open(state: &[u8], space: u16) -> bool
-    requires { ⌜ Stored (now state) × (space < spaceNumbers) ⌝ }
+    requires { ⌜ IsStored (now state) × (space < spaceNumbers) ⌝ }
     ensures { λ r. ⌜ r ≡ isOpen (decode (now (state .entry)) .spaces) space ⌝ }
 {
     let mut open = [0u8; TABLE];
@@ -150,7 +151,7 @@ pub fn space_open(state: &[u8], space: u16) -> bool
 
 // Whether a space is private to another process.
 pub fn space_denied(state: &[u8], process: u16, space: u16) -> bool
-    requires { ⌜ Stored (now state) × (space < spaceNumbers) ⌝ }
+    requires { ⌜ IsStored (now state) × (space < spaceNumbers) ⌝ }
     ensures { λ r. ⌜ r ≡ isDenied (decode (now (state .entry)) .spaces) process space ⌝ }
 {
     let mut denied = [0u8; TABLE];
@@ -220,7 +221,7 @@ fn pass_branch(body: &[u8], at: usize, table: &[u8], want: u8) -> usize
 }
 
 // Whether a legal body names, in any operation of any branch, a space whose byte in a table is so.
-fn some_named(body: &[u8], table: &[u8], want: u8) -> bool
+pub fn some_named(body: &[u8], table: &[u8], want: u8) -> bool
     requires { ⌜ T (legalBody (now body)) ⌝ }
     ensures { λ r. ⌜ r ≡ any (marked (now (table .entry)) want) (spacesNamed (statementOf (now (body .entry)))) ⌝ }
 {
@@ -239,7 +240,7 @@ fn some_named(body: &[u8], table: &[u8], want: u8) -> bool
 
 // 10: whether a legal body names a space that is not open.
 fn names_closed(state: &[u8], body: &[u8]) -> bool
-    requires { ⌜ Stored (now state) × T (legalBody (now body)) ⌝ }
+    requires { ⌜ IsStored (now state) × T (legalBody (now body)) ⌝ }
     ensures { λ r. ⌜ r ≡ any (λ n. not (isOpen (decode (now (state .entry)) .spaces) n)) (spacesNamed (statementOf (now (body .entry)))) ⌝ }
 {
     let mut open = [0u8; TABLE];
@@ -249,7 +250,7 @@ fn names_closed(state: &[u8], body: &[u8]) -> bool
 
 // 11: whether a legal body names a space that is private to another process.
 fn names_denied(state: &[u8], process: u16, body: &[u8]) -> bool
-    requires { ⌜ Stored (now state) × T (legalBody (now body)) ⌝ }
+    requires { ⌜ IsStored (now state) × T (legalBody (now body)) ⌝ }
     ensures { λ r. ⌜ r ≡ any (isDenied (decode (now (state .entry)) .spaces) process) (spacesNamed (statementOf (now (body .entry)))) ⌝ }
 {
     let mut denied = [0u8; TABLE];
@@ -259,7 +260,7 @@ fn names_denied(state: &[u8], process: u16, body: &[u8]) -> bool
 
 // 10 over all spaces that a legal body names, then 11 over all.
 fn refuse_named(state: &[u8], process: u16, body: &[u8]) -> u8
-    requires { ⌜ Stored (now state) × T (legalBody (now body)) ⌝ }
+    requires { ⌜ IsStored (now state) × T (legalBody (now body)) ⌝ }
     ensures { λ r. ⌜ r ≡ refusal (access (decode (now (state .entry))) process (spacesNamed (statementOf (now (body .entry))))) ⌝ }
 {
     if names_closed(state, body) {
@@ -275,7 +276,7 @@ fn refuse_named(state: &[u8], process: u16, body: &[u8]) -> u8
 
 // Whether the waiting statement at an index names a marked space.
 fn waiting_names(state: &[u8], i: usize, table: &[u8]) -> bool
-    requires { ⌜ Stored (now state) × (i < getD (now state) waitingCountAt 0) ⌝ }
+    requires { ⌜ IsStored (now state) × (i < getD (now state) waitingCountAt 0) ⌝ }
     ensures { λ r. ⌜ r ≡ naming (now (table .entry)) (waitingOf (now (state .entry)) i) ⌝ }
 {
     let at = WAITING_AT + i * WAITING;
@@ -286,7 +287,7 @@ fn waiting_names(state: &[u8], i: usize, table: &[u8]) -> bool
 
 // Whether some waiting statement names a marked space.
 fn some_waiting_names(state: &[u8], table: &[u8]) -> bool
-    requires { ⌜ Stored (now state) ⌝ }
+    requires { ⌜ IsStored (now state) ⌝ }
     ensures { λ r. ⌜ r ≡ any (naming (now (table .entry))) (decode (now (state .entry)) .waiting) ⌝ }
 {
     let n = size(state[WAITING_COUNT_AT]);
@@ -302,7 +303,7 @@ fn some_waiting_names(state: &[u8], table: &[u8]) -> bool
 
 // Whether some waiting statement names a space.
 pub fn named_by_waiting(state: &[u8], space: u16) -> bool
-    requires { ⌜ Stored (now state) × (space < spaceNumbers) ⌝ }
+    requires { ⌜ IsStored (now state) × (space < spaceNumbers) ⌝ }
     ensures { λ r. ⌜ r ≡ someWaitingNames (decode (now (state .entry))) space ⌝ }
 {
     let mut table = [0u8; TABLE];
@@ -313,7 +314,7 @@ pub fn named_by_waiting(state: &[u8], space: u16) -> bool
 
 // 15: "space 0, or a space a waiting statement names".
 fn in_use(state: &[u8], space: u16) -> bool
-    requires { ⌜ Stored (now state) × (space < spaceNumbers) ⌝ }
+    requires { ⌜ IsStored (now state) × (space < spaceNumbers) ⌝ }
     ensures { λ r. ⌜ r ≡ (eqb space 0 || someWaitingNames (decode (now (state .entry))) space) ⌝ }
 {
     if space == 0 {
@@ -324,7 +325,7 @@ fn in_use(state: &[u8], space: u16) -> bool
 
 // 10, 11 and 15 of the one space that DS names.
 fn refuse_space(state: &[u8], process: u16, space: u16) -> u8
-    requires { ⌜ Stored (now state) × (space < spaceNumbers) ⌝ }
+    requires { ⌜ IsStored (now state) × (space < spaceNumbers) ⌝ }
     ensures { λ r. ⌜ r ≡ refusal (closing (decode (now (state .entry))) process space) ⌝ }
 {
     if !space_open(state, space) {
@@ -343,7 +344,7 @@ fn refuse_space(state: &[u8], process: u16, space: u16) -> u8
 
 // RV: 8, "host up already".
 pub fn refuse_recover(state: &[u8], host: u8) -> u8
-    requires { ⌜ Stored (now state) × (host < hosts) ⌝ }
+    requires { ⌜ IsStored (now state) × (host < hosts) ⌝ }
     ensures { λ r. ⌜ r ≡ refusal (checks (decode (now (state .entry))) (recover host)) ⌝ }
 {
     if host_is_up(state, host) {
@@ -354,7 +355,7 @@ pub fn refuse_recover(state: &[u8], host: u8) -> u8
 
 // CR: 7, then 12, where a tuple for each monitor would not fit.
 pub fn refuse_crash(state: &[u8], host: u8) -> u8
-    requires { ⌜ Stored (now state) × (host < hosts) ⌝ }
+    requires { ⌜ IsStored (now state) × (host < hosts) ⌝ }
     ensures { λ r. ⌜ r ≡ refusal (checks (decode (now (state .entry))) (crash host)) ⌝ }
 {
     if !host_is_up(state, host) {
@@ -369,7 +370,7 @@ pub fn refuse_crash(state: &[u8], host: u8) -> u8
 
 // MO: 7 and 9, then 14, where the monitors are used up.
 pub fn refuse_monitor(state: &[u8], host: u8, process: u16) -> u8
-    requires { ⌜ Stored (now state) × (host < hosts) ⌝ }
+    requires { ⌜ IsStored (now state) × (host < hosts) ⌝ }
     ensures { λ r. ⌜ r ≡ refusal (checks (decode (now (state .entry))) (monitor host process)) ⌝ }
 {
     let r = refuse_standing(state, host, process);
@@ -384,7 +385,7 @@ pub fn refuse_monitor(state: &[u8], host: u8, process: u16) -> u8
 
 // 14 of spaces: as many as can be are open, or their numbers are used up.
 fn refuse_more(state: &[u8]) -> u8
-    requires { ⌜ Stored (now state) ⌝ }
+    requires { ⌜ IsStored (now state) ⌝ }
     ensures { λ r. ⌜ r ≡ refusal (usedUp (decode (now (state .entry)))) ⌝ }
 {
     if MOST_SPACES <= size(state[SPACE_COUNT_AT]) {
@@ -398,7 +399,7 @@ fn refuse_more(state: &[u8]) -> u8
 
 // MS: 7 and 9, then 14.
 pub fn refuse_open(state: &[u8], host: u8, process: u16) -> u8
-    requires { ⌜ Stored (now state) × (host < hosts) ⌝ }
+    requires { ⌜ IsStored (now state) × (host < hosts) ⌝ }
     ensures { λ r. ⌜ ((isPrivate : Bool) → r ≡ refusal (checks (decode (now (state .entry))) (openSpace host process isPrivate))) ⌝ }
 {
     let r = refuse_standing(state, host, process);
@@ -410,7 +411,7 @@ pub fn refuse_open(state: &[u8], host: u8, process: u16) -> u8
 
 // DS: 7 and 9, then 10, 11 and 15.
 pub fn refuse_close(state: &[u8], host: u8, process: u16, space: u16) -> u8
-    requires { ⌜ Stored (now state) × (host < hosts) × (space < spaceNumbers) ⌝ }
+    requires { ⌜ IsStored (now state) × (host < hosts) × (space < spaceNumbers) ⌝ }
     ensures { λ r. ⌜ r ≡ refusal (checks (decode (now (state .entry))) (closeSpace host process space)) ⌝ }
 {
     let r = refuse_standing(state, host, process);
@@ -422,7 +423,7 @@ pub fn refuse_close(state: &[u8], host: u8, process: u16, space: u16) -> u8
 
 // AG: 7 and 9, then 10 and 11.
 pub fn refuse_statement(state: &[u8], body: &[u8]) -> u8
-    requires { ⌜ Stored (now state) × T (legalBody (now body)) ⌝ }
+    requires { ⌜ IsStored (now state) × T (legalBody (now body)) ⌝ }
     ensures { λ r. ⌜ r ≡ refusal (checks (decode (now (state .entry))) (guarded (statementOf (now (body .entry))))) ⌝ }
 {
     let process = word2(body, PROCESS_AT);

@@ -13,7 +13,8 @@ use Rattle.model.specs.Execution.{performAll}
 use Rattle.tuples.specs.Section.{tuplesOf, Section}
 use Rattle.tuples.specs.SectionLaws.{holds-length}
 use Rattle.engine.specs.Performing.{Leaves}
-use Rattle.engine.specs.Branches.{statementIn, body-is}
+use Rattle.layout.specs.Stored.{statementOf}
+use Rattle.engine.specs.Branches.{body-is}
 use Rattle.engine.specs.Searching.{branchAt}
 use Rattle.engine.specs.Attempting.{picked-branch, attempt-none, attempt-fails, attempt-done, over-all}
 use Rattle.engine.proofs.attempt.Statement.{statement}
@@ -68,7 +69,7 @@ same-length c = search needs
 returns : tie.Need-returns
 returns c =
     let at = c .before .before .before in
-    attempt-none (bytes at) (statementIn (bytes at)) (section at) (start at .args .n) (start at .pre .0) (at .search .result .branch) (at .search .result .at) (at .search .ensures) (c .before .if1 .taken) 0 (c .no-vars .result)
+    attempt-none (bytes at) (statementOf (bytes at)) (section at) (start at .args .n) (start at .pre .0) (at .search .result .branch) (at .search .result .at) (at .search .ensures) (c .before .if1 .taken) 0 (c .no-vars .result)
 
 slice-aggregate-copy-at : tie.Need-slice-aggregate-copy-at
 slice-aggregate-copy-at c = search needs
@@ -96,7 +97,7 @@ returns-2 c =
     let run = c .before .before .before .before in
     let at = choice (copy run) in
     let r = run .run-branch .result in
-    attempt-fails (bytes at) (statementIn (bytes at)) (section at) (start at .args .n) (start at .pre .0) (at .search .result .branch) (at .search .result .at) (at .search .ensures) (some-branch (copy run))
+    attempt-fails (bytes at) (statementOf (bytes at)) (section at) (start at .args .n) (start at .pre .0) (at .search .result .branch) (at .search .result .at) (at .search .ensures) (some-branch (copy run))
     (r .outcome) (r .n) (r .vars) (run .run-branch .last .0) (left-is run) (c .if2 .taken)
 
 slice-aggregate-copy-at-2 : tie.Need-slice-aggregate-copy-at-2
@@ -113,7 +114,7 @@ returns-3 c =
     let run = c .before .before .before .before .before .before .before .before .before in
     let at = choice (copy run) in
     let r = run .run-branch .result in
-    attempt-done (bytes at) (statementIn (bytes at)) (section at) (start at .args .n) (start at .pre .0) (at .search .result .branch) (at .search .result .at) (at .search .ensures) (some-branch (copy run))
+    attempt-done (bytes at) (statementOf (bytes at)) (section at) (start at .args .n) (start at .pre .0) (at .search .result .branch) (at .search .result .at) (at .search .ensures) (some-branch (copy run))
     (r .outcome) (r .n) (r .vars) (run .run-branch .last .0) (left-is run) (c .before .before .before .before .before .if2 .left) _
     (c .before .before .copy-at2 .ensures ∙ over-all (section at) (run .run-branch .last .0) (sym (same-size run)))
 

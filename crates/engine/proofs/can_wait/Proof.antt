@@ -10,13 +10,14 @@ use lib.ListN.{length, getD}
 use denote.Ref.{now}
 use Rattle.model.specs.Execution.{isBlocking, canWait}
 use Rattle.statements.specs.Flat.{operationIs}
-use Rattle.engine.specs.Branches.{Branches, Stand, leftAt, statementIn, Body, body-is, NextBranch, next-branch}
+use Rattle.layout.specs.Stored.{statementOf}
+use Rattle.engine.specs.Branches.{Branches, Stand, leftAt, Body, body-is, NextBranch, next-branch}
 use Rattle.engine.specs.Searching.{Asking, ask-first, ask-end, ask-yes, ask-next, guard-blocks, guard-passes}
 use Rattle.engine.proofs.can_wait.Statement.{statement}
 use Rattle.engine.proofs.can_wait.Tie as tie
 
 abbrev Inv-loop : tie.InvT-loop
-Inv-loop body count at₀ i₀ at i = (i ≤ count) × Asking body (canWait (statementIn body)) at (count - i)
+Inv-loop body count at₀ i₀ at i = (i ≤ count) × Asking body (canWait (statementOf body)) at (count - i)
 
 abbrev μ-loop : tie.MeasureT-loop
 μ-loop body count at₀ i₀ at i = count - i
@@ -46,7 +47,7 @@ module _ (c : tie.After-read-operation Inv-loop μ-loop) where
   here : NextBranch bytes (at .loop .at) (left - 1) (c .read-operation .result)
   here = next-branch bytes (at .loop .at) (left - 1) (subst (Branches bytes (at .loop .at)) one-more (at .loop .inv .1 .ahead)) (c .read-operation .result) (c .read-operation .ensures)
 
-  yes : isBlocking (operationIs (c .read-operation .result .operation)) ≡ true → true ≡ canWait (statementIn bytes)
+  yes : isBlocking (operationIs (c .read-operation .result .operation)) ≡ true → true ≡ canWait (statementOf bytes)
   yes g = ask-yes bytes _ (at .loop .at) left (at .loop .inv .1) (left - 1) one-more (c .read-operation .result) (c .read-operation .ensures) g
 
 shared-slice-read-count : tie.Need-shared-slice-read-count Inv-loop μ-loop

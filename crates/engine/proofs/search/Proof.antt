@@ -17,7 +17,8 @@ use Rattle.tuples.specs.Section.{tuplesOf}
 use Rattle.tuples.specs.Hits.{hits}
 use Rattle.engine.specs.Fields.{fieldsIn}
 use Rattle.engine.specs.Templates.{AsksFor}
-use Rattle.engine.specs.Branches.{Branches, Stand, leftAt, statementIn, Body, body-is, NextBranch, next-branch}
+use Rattle.layout.specs.Stored.{statementOf}
+use Rattle.engine.specs.Branches.{Branches, Stand, leftAt, Body, body-is, NextBranch, next-branch}
 use Rattle.engine.specs.Searching.{Chooses, Seeking, seek-first, seek-end, seek-found, seek-next, guard-true, guard-template, any-hit, any-miss, any-end}
 use Rattle.engine.proofs.search.Statement.{statement}
 use Rattle.engine.proofs.search.Tie as tie
@@ -31,7 +32,7 @@ abbrev μ-tuples : tie.MeasureT-tuples
 
 abbrev Inv-branches : tie.InvT-branches
 Inv-branches tuples n body count branch₀ at₀ i₀ branch at i =
-    (branch ≡ 0) × (i ≤ count) × Seeking body (tuplesOf tuples n) (chosen (tuplesOf tuples n) (statementIn body)) i at (count - i)
+    (branch ≡ 0) × (i ≤ count) × Seeking body (tuplesOf tuples n) (chosen (tuplesOf tuples n) (statementOf body)) i at (count - i)
 
 abbrev μ-branches : tie.MeasureT-branches
 μ-branches tuples n body count branch₀ at₀ i₀ branch at i = count - i
@@ -68,11 +69,11 @@ module _ (c : tie.After-read-operation Inv-tuples μ-tuples Inv-branches μ-bran
   here : NextBranch bytes (at .branches .at) (left - 1) (c .read-operation .result)
   here = next-branch bytes (at .branches .at) (left - 1) (subst (Branches bytes (at .branches .at)) one-more (at .branches .inv .2 .ahead)) (c .read-operation .result) (c .read-operation .ensures)
 
-  found : holds present (operationIs (c .read-operation .result .operation)) ≡ true → Chooses bytes (chosen present (statementIn bytes)) (at .branches .i + 1) (at .branches .at)
+  found : holds present (operationIs (c .read-operation .result .operation)) ≡ true → Chooses bytes (chosen present (statementOf bytes)) (at .branches .i + 1) (at .branches .at)
   found g = seek-found bytes present _ (at .branches .i) (at .branches .at) left (at .branches .inv .2) (left - 1) one-more (c .read-operation .result) (c .read-operation .ensures) g
 
   on : holds present (operationIs (c .read-operation .result .operation)) ≡ false → (next : ℕ) → drop next bytes ≡ leftAt bytes (c .read-operation .result .end + 1) (getD bytes (c .read-operation .result .end) 0)
-      → Seeking bytes present (chosen present (statementIn bytes)) (at .branches .i + 1) next (left - 1)
+      → Seeking bytes present (chosen present (statementOf bytes)) (at .branches .i + 1) next (left - 1)
   on g next d = seek-next bytes present _ (at .branches .i) (at .branches .at) left (at .branches .inv .2) (left - 1) one-more (c .read-operation .result) (c .read-operation .ensures) g next d
 
 -- a guard with a template

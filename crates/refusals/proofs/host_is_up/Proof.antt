@@ -9,7 +9,7 @@ use Rattle.basis.specs.Numbers.{bits}
 use Rattle.basis.specs.Sizes.{hosts}
 use Rattle.model.specs.Run.{hostUp}
 use Rattle.layout.specs.States.{decode}
-use Rattle.refusals.specs.Stored.{stored-length}
+use Rattle.refusals.specs.Places.{stored-length}
 use borrow.Author.Needs.{needs}
 use Rattle.refusals.proofs.host_is_up.Statement.{statement}
 use Rattle.refusals.proofs.host_is_up.Tie as tie

@@ -5,7 +5,7 @@ use lib.ListN.{length, length-set}
 use denote.Ref.{now}
 use Rattle.basis.specs.PadLaws.{zeros-length}
 use Rattle.basis.specs.Sizes.{spaceNumbers}
-use Rattle.refusals.specs.Stored.{stored-length}
+use Rattle.refusals.specs.Places.{stored-length}
 use Rattle.refusals.specs.Marks.{Marking, marking-start, marking-yes, marking-no, marking-end}
 use borrow.Author.Needs.{needs}
 use Rattle.refusals.proofs.mark_spaces.Statement.{statement}

@@ -4,7 +4,7 @@ use denote.Ref.{now}
 use Rattle.basis.specs.Lists.{zeros}
 use Rattle.model.specs.Statement.{spacesNamed}
 use Rattle.layout.specs.States.{decode}
-use Rattle.refusals.specs.Head.{statementOf}
+use Rattle.layout.specs.Stored.{statementOf}
 use Rattle.refusals.specs.Marks.{denied-named}
 use Rattle.refusals.specs.Names.{body-small}
 use borrow.Author.Needs.{needs}

@@ -3,7 +3,7 @@ use mathlib.Core.Path.{sym, _∙_}
 use Prim.Native.Nat.{_-_}
 use native.Mathlib.Omega.{arith}
 use denote.Ref.{now}
-use Rattle.refusals.specs.Stored.{stored-length}
+use Rattle.refusals.specs.Places.{stored-length}
 use Rattle.refusals.specs.Queue.{Passing, passing-start, ofProcess, process-on, process-yes, process-end}
 use borrow.Author.Needs.{needs}
 use Rattle.refusals.proofs.process_waits.Statement.{statement}

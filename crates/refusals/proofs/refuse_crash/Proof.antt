@@ -3,7 +3,7 @@ use mathlib.Core.Path.{sym, _∙_}
 use native.Mathlib.Omega.{arith}
 use denote.Ref.{now}
 use borrow.Author.Tests.{not-true, not-false}
-use Rattle.refusals.specs.Stored.{stored-length}
+use Rattle.refusals.specs.Places.{stored-length}
 use Rattle.refusals.specs.Refusal.{crash-down, crash-many, crash-few}
 use borrow.Author.Needs.{needs}
 use Rattle.refusals.proofs.refuse_crash.Statement.{statement}

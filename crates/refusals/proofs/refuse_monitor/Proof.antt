@@ -3,7 +3,7 @@ use mathlib.Core.Path.{_∙_}
 use native.Mathlib.Omega.{arith}
 use denote.Ref.{now}
 use Rattle.model.specs.Step.{checks}
-use Rattle.refusals.specs.Stored.{stored-length}
+use Rattle.refusals.specs.Places.{stored-length}
 use Rattle.refusals.specs.Refusal.{stops, goes, monitors-used, monitors-left}
 use borrow.Author.Needs.{needs}
 use Rattle.refusals.proofs.refuse_monitor.Statement.{statement}

@@ -1,7 +1,7 @@
 -- `refusals::refuse_more` meets its contract. Assumes nothing.
 use native.Mathlib.Omega.{arith}
 use denote.Ref.{now}
-use Rattle.refusals.specs.Stored.{stored-length}
+use Rattle.refusals.specs.Places.{stored-length}
 use Rattle.refusals.specs.Refusal.{spaces-used, numbers-used, numbers-left}
 use borrow.Author.Needs.{needs}
 use Rattle.refusals.proofs.refuse_more.Statement.{statement}

@@ -5,7 +5,7 @@ use denote.Ref.{now}
 use Rattle.model.specs.Statement.{spacesNamed}
 use Rattle.model.specs.Step.{access}
 use Rattle.layout.specs.States.{decode}
-use Rattle.refusals.specs.Head.{statementOf}
+use Rattle.layout.specs.Stored.{statementOf}
 use Rattle.refusals.specs.Refusal.{refusal-none, not-open, denied, allowed}
 use borrow.Author.Needs.{needs}
 use Rattle.refusals.proofs.refuse_named.Statement.{statement}

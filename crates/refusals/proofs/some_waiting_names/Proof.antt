@@ -3,7 +3,7 @@ use mathlib.Core.Path.{sym, _∙_}
 use Prim.Native.Nat.{_-_}
 use native.Mathlib.Omega.{arith}
 use denote.Ref.{now}
-use Rattle.refusals.specs.Stored.{stored-length}
+use Rattle.refusals.specs.Places.{stored-length}
 use Rattle.refusals.specs.Queue.{Passing, passing-start, passing-on, passing-yes, passing-end}
 use Rattle.refusals.specs.Names.{naming}
 use borrow.Author.Needs.{needs}

@@ -2,7 +2,7 @@
 use mathlib.Core.Path.{refl, ap, _∙_}
 use native.Mathlib.Omega.{arith}
 use denote.Ref.{now}
-use Rattle.refusals.specs.Stored.{stored-length, waiting-few}
+use Rattle.refusals.specs.Places.{stored-length, waiting-few}
 use Rattle.basis.specs.Lists.{any}
 use Rattle.model.specs.Statement.{Statement, spacesNamed}
 use Rattle.refusals.specs.Walk.{marked}

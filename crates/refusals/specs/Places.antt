@@ -17,16 +17,12 @@ use Rattle.model.specs.Run.{Space, Waiting, Run}
 use Rattle.model.specs.ReadBack.{parse-some}
 use Rattle.model.specs.Fit.{Fit}
 use Rattle.layout.specs.States.{headerBytes, spaceBytes, tupleBytes, waitingBytes, area, encode, byteAt, spaceRead, tupleRead, waitingRead, decode}
+use Rattle.layout.specs.Stored.{IsStored}
 use Rattle.layout.specs.PlaceLaws.{area-unused}
 use Rattle.layout.specs.StateLaws.{area-length, encode-length}
 use Rattle.refusals.specs.Entries.{drop-map, take-drop-take, number-in, pieces-from, entryAt, entries-length, entries-from}
 
--- the bytes of the run that they say, which is within its limits
-pub record Stored (b : List ℕ) : Type 0 where
-  pub bytes : b ≡ encode (decode b)
-  pub fit : Fit (decode b)
-
-pub stored-length : (b : List ℕ) → Stored b → length b ≡ stateSize
+pub stored-length : (b : List ℕ) → IsStored b → length b ≡ stateSize
 stored-length b h = ap length (h .bytes) ∙ encode-length (decode b)
 
 -- ---- the counts of the header are those of the run
@@ -44,11 +40,11 @@ unfolding decode
 waiting-count b = entries-length waitingRead (byteAt waitingCountAt b) waitingSize waitingAt b
 
 -- and are within the limits
-pub spaces-few : (b : List ℕ) → Stored b → getD b spaceCountAt 0 ≤ mostSpaces
+pub spaces-few : (b : List ℕ) → IsStored b → getD b spaceCountAt 0 ≤ mostSpaces
 unfolding byteAt
 spaces-few b h = omega (arith, spaces-count b, h .fit .spaces .few)
 
-pub waiting-few : (b : List ℕ) → Stored b → getD b waitingCountAt 0 ≤ mostWaiting
+pub waiting-few : (b : List ℕ) → IsStored b → getD b waitingCountAt 0 ≤ mostWaiting
 unfolding byteAt
 waiting-few b h = omega (arith, waiting-count b, h .fit .waiting .few)
 
@@ -111,7 +107,7 @@ waiting-area s =
 abbrev entry : Waiting → List ℕ
 entry w = pad waitingSize (waitingBytes w)
 
-waiting-pieces : (b : List ℕ) → Stored b → pieces (getD b waitingCountAt 0) waitingSize (drop waitingAt b) ≡ map entry (decode b .waiting)
+waiting-pieces : (b : List ℕ) → IsStored b → pieces (getD b waitingCountAt 0) waitingSize (drop waitingAt b) ≡ map entry (decode b .waiting)
 unfolding byteAt
 waiting-pieces b h =
     let ws = decode b .waiting in
@@ -120,7 +116,7 @@ waiting-pieces b h =
     rw (e, ← waiting-count b) (pieces-rows waitingSize entry (λ w. pad-length waitingSize (waitingBytes w)) ws _)
 
 -- its bytes are those that it is written as
-waiting-bytes : (b : List ℕ) (i : ℕ) → Stored b → i < getD b waitingCountAt 0 → take waitingSize (drop (waitingPlace i) b) ≡ entry (waitingOf b i)
+waiting-bytes : (b : List ℕ) (i : ℕ) → IsStored b → i < getD b waitingCountAt 0 → take waitingSize (drop (waitingPlace i) b) ≡ entry (waitingOf b i)
 waiting-bytes b i h l =
     let n = getD b waitingCountAt 0 in
     let first : List (List ℕ) → List ℕ = λ k. getD k 0 [] in
@@ -157,7 +153,7 @@ position-of b i =
     let e : waitingPlace i + 0 ≡ waitingPlace i = omega arith in
     sym (number-in (waitingPlace i) waitingSize 0 positionWidth b (omega arith) ∙ ap (λ (k : ℕ). numberAt k positionWidth b) e)
 
-pub waits-at : (b : List ℕ) (i : ℕ) → Stored b → i < getD b waitingCountAt 0 → WaitsAt b i
+pub waits-at : (b : List ℕ) (i : ℕ) → IsStored b → i < getD b waitingCountAt 0 → WaitsAt b i
 unfolding bodySize bodyOf
 waits-at b i h l =
     let w = waitingOf b i in
