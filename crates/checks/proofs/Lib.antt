@@ -1,0 +1,5 @@
+pub mod Spaces
+pub mod Table
+pub mod Tuples
+pub mod Waiting
+pub mod State

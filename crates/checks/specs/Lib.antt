@@ -1,0 +1,12 @@
+pub mod Below
+pub mod Checks
+pub mod AreaLaws
+pub mod PartLaws
+pub mod RowLaws
+pub mod SpaceLaws
+pub mod HeaderLaws
+pub mod TableLaws
+pub mod TupleLaws
+pub mod EntryLaws
+pub mod WaitingLaws
+pub mod CheckLaws
