@@ -23,9 +23,12 @@ pub record FreshAnswer : Type 0 where
   pub returned : ℕ
   pub state : Bytes
 
+abbrev pub freshAnswer : (returned : ℕ) → (state : Bytes) → FreshAnswer
+freshAnswer n state = record { returned = n; state = state }
+
 -- "The fresh-state call gives 1 for length, else 0"
 unfoldable pub freshCall : (state : Bytes) → FreshAnswer
-freshCall state = cond (eqb (length state) stateSize) (record { returned = 0; state = encode fresh }) (record { returned = 1; state = state })
+freshCall state = cond (eqb (length state) stateSize) (freshAnswer 0 (encode fresh)) (freshAnswer 1 state)
 
 -- ---- the call for a record
 
@@ -35,11 +38,17 @@ pub record Lent : Type 0 where
   pub input : Bytes
   pub reply : Bytes
 
+abbrev pub lent : (state input reply : Bytes) → Lent
+lent state input reply = record { state = state; input = input; reply = reply }
+
 -- the number returned and the two written buffers at exit
 pub record Answer : Type 0 where
   pub returned : ℕ
   pub state : Bytes
   pub reply : Bytes
+
+abbrev pub answer : (returned : ℕ) → (state reply : Bytes) → Answer
+answer n state reply = record { returned = n; state = state; reply = reply }
 
 -- a record's number is its position; bytes that fail check 3 have none
 unfoldable pub numberOf : Bytes → Option ℕ
@@ -68,14 +77,14 @@ laidOver new buffer = new ++ drop (length new) buffer
 
 -- "1 to 5: the call changes no byte"
 unfoldable pub turnedBack : Lent → ℕ → Answer
-turnedBack l n = record { returned = n; state = l .state; reply = l .reply }
+turnedBack l n = answer n (l .state) (l .reply)
 
 -- "A taken call returns its reply byte count"
 unfoldable pub taken : Lent → Answer
 taken l =
     let t = stepBytes (decode (l .state)) (l .input) in
     let bytes = repliesBytes (t .replies) in
-    record { returned = length bytes; state = encode (t .run); reply = laidOver bytes (l .reply) }
+    answer (length bytes) (encode (t .run)) (laidOver bytes (l .reply))
 
 unfoldable pub takeCall : Lent → Answer
 takeCall l = maybe (refusal l) (taken l) (turnedBack l)

@@ -1,3 +1,4 @@
+pub mod Unused
 pub mod Spaces
 pub mod Table
 pub mod Tuples

@@ -2,28 +2,24 @@
 use mathlib.Core.Path.{_≡_, sym, ap, _∙_}
 use mathlib.Core.List.{List}
 use mathlib.Core.Bool.{Bool, true, false, _&&_}
-use Prim.Native.Nat.{ℕ, _+_, _-_, _*_, _≤_, _<_}
+use Prim.Native.Nat.{ℕ, _<_}
 use native.Mathlib.Omega.{arith}
-use lib.ListN.{length, take, drop, getD, length-drop}
+use lib.ListN.{length, drop, getD, length-drop}
 use lib.Seq.{length-take-le}
 use lib.Dec.{T}
 use lib.Pow.{areBytes}
 use Rattle.basis.specs.Logic.{and-l, and-r}
-use Rattle.basis.specs.NumberLaws.{bytes-take, bytes-drop, bytes-at}
-use Rattle.basis.specs.Sizes.{mostTuples, tupleSize, tuplesSize, tuplesAt, stateSize}
+use Rattle.basis.specs.Sizes.{tuplesSize, tuplesAt, stateSize}
 use Rattle.layout.specs.IsState.{isState}
 use Rattle.layout.specs.StateLaws.{state-length}
-use Rattle.words.specs.Over.{zerosAt}
-use Rattle.tuples.specs.Section.{entryAt, tuplesOf, Section}
-use Rattle.tuples.specs.Entry.{isEntry}
-use Rattle.tuples.specs.EntryLaws.{section-of}
+use Rattle.tuples.specs.Section.{tuplesOf}
+use Rattle.refusals.specs.PassLaws.{bytes-of}
 use Rattle.checks.specs.Below.{below, below-at}
-use Rattle.checks.specs.Checks.{tupleCount, waitingCount, headerOk, spacesOk, tupleOpen, tuplesOk, entryOk, senderOk, bodyAllowed, waitOk, waitingOk, calm}
-use Rattle.checks.specs.HeaderLaws.{refused, same-test, Counts}
-use Rattle.checks.specs.RowLaws.{are-bytes}
+use Rattle.checks.specs.Checks.{tupleCount, waitingCount, headerOk, unusedOk, spacesOk, tuplesOk, entryOk, senderOk, bodyAllowed, waitOk, waitingOk, calm}
+use Rattle.checks.specs.HeaderLaws.{refused, same-test}
 use Rattle.checks.specs.TupleLaws.{Marked, sectionOf}
 use Rattle.checks.specs.WaitingLaws.{Shape, shape-of}
-use Rattle.checks.specs.CheckLaws.{Checked, checked-state, state-header, state-spaces, state-checked}
+use Rattle.checks.specs.CheckLaws.{checked-state, state-header, state-unused, state-spaces, state-checked}
 
 -- a test that answered true, and one that answered false
 yes : (r t : Bool) → r ≡ t → r ≡ true → T t
@@ -45,13 +41,16 @@ shapes-of b r e z i h =
 
 module _ (b : List ℕ) (known : (k : ℕ) → getD b k 0 < 256) (long : length b ≡ stateSize) where
   bytes : T (areBytes b)
-  bytes = are-bytes b known
+  bytes = bytes-of b known
 
   pub section-long : length (sectionOf b) ≡ tuplesSize
   section-long = length-take-le tuplesSize (drop tuplesAt b) (simp length-drop (omega arith))
 
   pub no-header : (r : Bool) → r ≡ headerOk b → r ≡ false → false ≡ isState b
   no-header r e z = refused (isState b) (λ t. no r (headerOk b) e z (state-header b bytes long t))
+
+  pub no-unused : (r : Bool) → r ≡ unusedOk b → r ≡ false → false ≡ isState b
+  no-unused r e z = refused (isState b) (λ t. no r (unusedOk b) e z (state-unused b bytes long t))
 
   pub no-spaces : (r : Bool) → r ≡ spacesOk b → r ≡ false → false ≡ isState b
   no-spaces r e z = refused (isState b) (λ t. no r (spacesOk b) e z (state-spaces b bytes long t))
@@ -67,10 +66,10 @@ module _ (b : List ℕ) (known : (k : ℕ) → getD b k 0 < 256) (long : length 
     no-waiting r e z = refused (isState b) (λ t. no r (waitingOk b) e z (state-checked b bytes long t table marks .waiting))
 
     -- the last test decides
-    pub then-calm : T (headerOk b) → T (spacesOk b) → tuples ≡ true → (waiting : Bool) → waiting ≡ waitingOk b → waiting ≡ true → (r : Bool) → r ≡ calm b (tuplesOf (sectionOf b) n) → r ≡ isState b
-    then-calm header spaces z waiting ew zw r e =
+    pub then-calm : T (headerOk b) → T (unusedOk b) → T (spacesOk b) → tuples ≡ true → (waiting : Bool) → waiting ≡ waitingOk b → waiting ≡ true → (r : Bool) → r ≡ calm b (tuplesOf (sectionOf b) n) → r ≡ isState b
+    then-calm header unused spaces z waiting ew zw r e =
         let t : T (tuplesOk table (sectionOf b) (tupleCount b)) = yes tuples (tuplesOk table (sectionOf b) (tupleCount b)) tuples-is z in
         let c : calm b (tuplesOf (sectionOf b) n) ≡ calm b (tuplesOf (sectionOf b) (tupleCount b)) = ap (λ (m : ℕ). calm b (tuplesOf (sectionOf b) m)) en in
         e ∙ c ∙ same-test (calm b (tuplesOf (sectionOf b) (tupleCount b))) (isState b)
-        (λ u. checked-state b bytes long table marks (record { header = header; spaces = spaces; tuples = t; waiting = yes waiting (waitingOk b) ew zw; calm = u }))
+        (λ u. checked-state b bytes long table marks (record { header = header; unused = unused; spaces = spaces; tuples = t; waiting = yes waiting (waitingOk b) ew zw; calm = u }))
         (λ u. state-checked b bytes long u table marks .calm)

@@ -2,12 +2,12 @@
 use mathlib.Core.Path.{_≡_, refl, sym, ap, _∙_}
 use mathlib.Core.List.{List, [], _∷_, List·Memᴰ·head, List·Memᴰ·tail}
 use mathlib.Core.Bool.{Bool, true, false, not, _&&_, _||_}
-use Prim.Native.Nat.{ℕ, zero, suc, _+_, _-_, _*_, _≤_, _<_}
+use Prim.Native.Nat.{ℕ, zero, suc, _+_, _-_, _≤_, _<_}
 use native.Mathlib.Omega.{arith}
 use lib.ListN.{length, take, drop, getD}
 use lib.Dec.{T, eqb}
 use borrow.Author.Tests.{eq-eqb, ne-eqb, lt-ltb, le-ltb, le-leb, lt-leb}
-use Rattle.basis.specs.Sizes.{positionWidth, maskWidth, hosts, spaceNumbers, mostBody, mostWaiting, lastAt, maskAt, waitingBodyAt, waitingSize, waitingAt, stateSize}
+use Rattle.basis.specs.Sizes.{positionWidth, maskWidth, hosts, spaceNumbers, mostBody, mostWaiting, lastAt, maskAt, waitingBodyAt, stateSize}
 use Rattle.basis.specs.Lists.{all, any}
 use Rattle.basis.specs.ListLaws.{Each}
 use Rattle.basis.specs.Numbers.{numberAt, bits}
@@ -20,11 +20,11 @@ use Rattle.words.specs.Over.{zerosAt}
 use Rattle.layout.specs.Stored.{statementOf, legal-parse}
 use Rattle.refusals.specs.Walk.{marked}
 use Rattle.refusals.specs.WalkLaws.{named-small}
+use Rattle.refusals.specs.PassLaws.{bytes-of}
 use Rattle.checks.specs.TableLaws.{marks-to}
 use Rattle.checks.specs.Below.{below, below-miss}
 use Rattle.checks.specs.Checks.{entryFrom, positionOf, lengthOf, bodyOf, hostOf, processOf, waitingCount, positionBefore, entryOk, processNew, spaceCount, codeOf, opens, markOf, spacesOpen, senderOk, bodyAllowed, waitOk, waitingOk, calm}
-use Rattle.checks.specs.RowLaws.{are-bytes}
-use Rattle.checks.specs.WaitingLaws.{Shape, Read, read-of}
+use Rattle.checks.specs.WaitingLaws.{Shape, read-of}
 
 -- ---- the position before
 
@@ -102,7 +102,7 @@ not-any p q (a ∷ l) h = rw (h a (List·Memᴰ·head refl)) (go (q a) (not-any 
 
 -- the host of a legal body is one of the sixteen
 pub host-small : (b : List ℕ) (i : ℕ) → ((k : ℕ) → getD b k 0 < 256) → length b ≡ stateSize → i < mostWaiting → Shape b i → hostOf b i < hosts
-host-small b i bytes long h s = (read-of b (are-bytes b bytes) long i h s) .below
+host-small b i bytes long h s = (read-of b (bytes-of b bytes) long i h s) .below
 
 pub no-host : (b : List ℕ) (i up : ℕ) (r : Bool) → up ≡ numberAt maskAt maskWidth b → r ≡ getD (bits hosts up) (hostOf b i) false → r ≡ false → false ≡ senderOk b i
 unfolding senderOk
@@ -139,25 +139,22 @@ ready-is b i len ts r el e = e ∙ ap (λ (l : List ℕ). ready ts (statementOf 
 
 -- ---- all of them
 
-pub no-wait : (b : List ℕ) (i : ℕ) → i < waitingCount b → waitOk b i ≡ false → false ≡ waitingOk b
-unfolding waitingOk
-no-wait b i h e = rw (sym (below-miss (waitOk b) i (waitingCount b) h e))
-
-module _ (b : List ℕ) (n i last before : ℕ) (en : n ≡ waitingCount b) (ei : i ≡ n) (each : below (waitOk b) i ≡ true)
-    (el : last ≡ numberAt lastAt positionWidth b) (eb : before ≡ positionBefore b n) where
-  all-each : below (waitOk b) (waitingCount b) ≡ true
-  all-each = sym (ap (below (waitOk b)) (ei ∙ en)) ∙ each
-
+module _ (b : List ℕ) (n last before : ℕ) (en : n ≡ waitingCount b) (el : last ≡ numberAt lastAt positionWidth b) (eb : before ≡ positionBefore b n) where
   before-is : positionBefore b (waitingCount b) ≡ before
   before-is = sym (eb ∙ ap (positionBefore b) en)
 
   pub no-last : last < before → false ≡ waitingOk b
   unfolding waitingOk
-  no-last h = rw (all-each, before-is, lt-leb before (numberAt lastAt positionWidth b) (omega arith))
+  no-last h = rw (before-is, lt-leb before (numberAt lastAt positionWidth b) (omega arith))
 
-  pub then-unused : before ≤ last → (z : Bool) → z ≡ zerosAt b (waitingAt + n * waitingSize) ((mostWaiting - n) * waitingSize) → z ≡ waitingOk b
-  unfolding waitingOk
-  then-unused h z e = rw (all-each, before-is, le-leb before (numberAt lastAt positionWidth b) (omega arith), ← en) e
+  module _ (fits : before ≤ last) (i : ℕ) where
+    pub no-wait : i < waitingCount b → waitOk b i ≡ false → false ≡ waitingOk b
+    unfolding waitingOk
+    no-wait h e = rw (before-is, le-leb before (numberAt lastAt positionWidth b) (omega arith)) (below-miss (waitOk b) i (waitingCount b) h e)
+
+    pub all-wait : i ≡ n → below (waitOk b) i ≡ true → true ≡ waitingOk b
+    unfolding waitingOk
+    all-wait e each = rw (before-is, le-leb before (numberAt lastAt positionWidth b) (omega arith)) (sym (sym (ap (below (waitOk b)) (e ∙ en)) ∙ each))
 
 -- ---- none is ready
 

@@ -1,19 +1,22 @@
 -- Entries of a size in an area, by index: what holds of them all, of some, of each two, and when the area is what it is read as. Assumes nothing.
-use mathlib.Core.Path.{_≡_, refl, sym, ap, subst, _∙_}
-use mathlib.Core.List.{List, [], _∷_, _++_, map, flatMap, append-assoc, append-nil}
+use mathlib.Core.Path.{_≡_, refl, sym, ap, _∙_}
+use mathlib.Core.List.{List, [], _∷_, _++_, map, flatMap, append-assoc}
 use Prim.Native.Nat.{ℕ, zero, suc, _+_, _-_, _*_, _≤_, _<_}
 use native.Mathlib.Omega.{arith}
-use native.Mathlib.Nat.{zero-mul, add-zero, zero-add}
-use mathlib.Core.Bool.{Bool, true, false, _&&_, _||_}
-use lib.ListN.{length, take, drop, length-append, length-drop, take-append-drop}
-use lib.Seq.{take-at, drop-at, take-all, take-add, drop-drop, length-take-le}
+use native.Mathlib.Nat.{zero-mul, mul-comm, mul-sub, mul-le-mul-right}
+use mathlib.Core.Bool.{Bool, _&&_, _||_}
+use lib.ListN.{length, take, drop, take-append-drop}
+use lib.Seq.{take-at, drop-at, take-add, drop-drop}
 use lib.Dec.{T}
 use mathlib.Core.Logic.{_⊎_, inl, inr}
 use Rattle.basis.specs.Logic.{and-l, and-r, both, or-l, or-r, or-cases}
 use Rattle.basis.specs.Lists.{all, any, pairwise, zeros, pad, pieces}
 use Rattle.basis.specs.PadLaws.{zeros-length, pad-length, pad-split, Wide, rows-length}
 use Rattle.layout.specs.States.{area, entries}
-use Rattle.tuples.specs.Rows.{pieces-length}
+use Rattle.words.specs.Over.{zerosAt}
+use Rattle.words.specs.ZeroLaws.{zerosAt→zeros, zeros→zerosAt}
+use Rattle.layout.specs.PlaceLaws.{area-unused}
+use Rattle.refusals.specs.Entries.{entries-length}
 
 -- entry i of w bytes each
 unfoldable pub row : (w : ℕ) → List ℕ → ℕ → List ℕ
@@ -167,32 +170,37 @@ flatMap-map write f [] = refl
 flatMap-map write f (a ∷ l) = ap (λ (r : List ℕ). write (f a) ++ r) (flatMap-map write f l)
 
 -- the rows of an area as what they are read as, then zeros
-module _ {A : Type 0} (read : List ℕ → A) (write : A → List ℕ) (whole w n at : ℕ) (b : List ℕ) (room : n * w ≤ whole) (long : at + whole ≤ length b) where
-  area-rows : area whole w write (entries read n w at b) ≡ flatMap (λ r. pad w (write (read r))) (pieces n w (drop at b)) ++ zeros (whole - n * w)
-  unfolding area entries
+module _ {A : Type 0} (read : List ℕ → A) (write : A → List ℕ) (most w n at : ℕ) (b : List ℕ) (few : n ≤ most) (long : at + most * w ≤ length b) where
+  room : n * w ≤ most * w
+  room = mul-le-mul-right w few
+
+  left : (most - n) * w ≡ most * w - n * w
+  left = rw (mul-comm (most - n) w, mul-sub w most n, mul-comm w most, mul-comm w n)
+
+  area-rows : area (most * w) w write (entries read n w at b) ≡ flatMap (λ r. pad w (write (read r))) (pieces n w (drop at b)) ++ zeros (most * w - n * w)
+  unfolding entries
   area-rows =
-      let E : List ℕ → List ℕ = λ r. pad w (write (read r)) in
-      let l : length (flatMap E (pieces n w (drop at b))) ≡ n * w = rows-length w E (λ r. pad-length w (write (read r))) (pieces n w (drop at b)) ∙ ap (λ (k : ℕ). k * w) (pieces-length n w (drop at b)) in
-      let s : pad whole (flatMap E (pieces n w (drop at b))) ≡ flatMap E (pieces n w (drop at b)) ++ zeros (whole - length (flatMap E (pieces n w (drop at b)))) = pad-split whole (flatMap E (pieces n w (drop at b))) (omega arith) in
-      rw (flatMap-map (λ a. pad w (write a)) read (pieces n w (drop at b)), s, l)
+      let n-rows : length (map read (pieces n w (drop at b))) ≡ n = entries-length read n w at b in
+      area-unused (most * w) w write (map read (pieces n w (drop at b))) (rw n-rows room) ∙ rw (flatMap-map (λ a. pad w (write a)) read (pieces n w (drop at b)), n-rows)
 
   -- an area is what it is read as if each entry is, and the rest is zero
-  pub area-same : ((i : ℕ) → i < n → pad w (write (read (row w (drop at b) i))) ≡ row w (drop at b) i)
-      → take (whole - n * w) (drop (at + n * w) b) ≡ zeros (whole - n * w)
-      → area whole w write (entries read n w at b) ≡ take whole (drop at b)
+  pub area-same : ((i : ℕ) → i < n → pad w (write (read (row w (drop at b) i))) ≡ row w (drop at b) i) → T (zerosAt b (at + n * w) ((most - n) * w))
+      → area (most * w) w write (entries read n w at b) ≡ take (most * w) (drop at b)
   area-same each rest =
       let q : List ℕ = drop at b in
-      let e : n * w + (whole - n * w) ≡ whole = omega arith in
-      area-rows ∙ rw (rows-same (λ r. pad w (write (read r))) n w q each, ← rest, ← drop-drop (n * w) at b, ← take-add (n * w) (whole - n * w) q, e)
+      let e : n * w + (most * w - n * w) ≡ most * w = omega (arith, room) in
+      let z : take (most * w - n * w) (drop (at + n * w) b) ≡ zeros (most * w - n * w) = zerosAt→zeros b (at + n * w) (most * w - n * w) (omega (arith, room)) (rw left at rest) in
+      area-rows ∙ rw (rows-same (λ r. pad w (write (read r))) n w q each, ← z, ← drop-drop (n * w) at b, ← take-add (n * w) (most * w - n * w) q, e)
 
   -- and only then
-  pub area-back : area whole w write (entries read n w at b) ≡ take whole (drop at b)
-      → ((i : ℕ) → i < n → pad w (write (read (row w (drop at b) i))) ≡ row w (drop at b) i) × (take (whole - n * w) (drop (at + n * w) b) ≡ zeros (whole - n * w))
+  pub area-back : area (most * w) w write (entries read n w at b) ≡ take (most * w) (drop at b)
+      → ((i : ℕ) → i < n → pad w (write (read (row w (drop at b) i))) ≡ row w (drop at b) i) × T (zerosAt b (at + n * w) ((most - n) * w))
   area-back e =
       let q : List ℕ = drop at b in
       let E : List ℕ → List ℕ = λ r. pad w (write (read r)) in
-      let z : List ℕ = zeros (whole - n * w) in
-      let f : flatMap E (pieces n w q) ++ z ≡ take whole q = sym area-rows ∙ e in
-      let g : flatMap E (pieces n w q) ++ (z ++ drop whole q) ≡ q = sym (append-assoc (flatMap E (pieces n w q)) z (drop whole q)) ∙ ap (λ (r : List ℕ). r ++ drop whole q) f ∙ take-append-drop whole q in
-      let r = same-rows E n w (λ r. pad-length w (write (read r))) q (z ++ drop whole q) g in
-      (r .0, rw (← drop-drop (n * w) at b, ← r .1) (take-at z (drop whole q) (whole - n * w) (zeros-length (whole - n * w))))
+      let z : List ℕ = zeros (most * w - n * w) in
+      let f : flatMap E (pieces n w q) ++ z ≡ take (most * w) q = sym area-rows ∙ e in
+      let g : flatMap E (pieces n w q) ++ (z ++ drop (most * w) q) ≡ q = sym (append-assoc (flatMap E (pieces n w q)) z (drop (most * w) q)) ∙ ap (λ (r : List ℕ). r ++ drop (most * w) q) f ∙ take-append-drop (most * w) q in
+      let r = same-rows E n w (λ r. pad-length w (write (read r))) q (z ++ drop (most * w) q) g in
+      let h : take (most * w - n * w) (drop (at + n * w) b) ≡ z = rw (← drop-drop (n * w) at b, ← r .1) (take-at z (drop (most * w) q) (most * w - n * w) (zeros-length (most * w - n * w))) in
+      (r .0, rw left (zeros→zerosAt b (at + n * w) (most * w - n * w) h))

@@ -1,12 +1,12 @@
 -- A test of each number below a bound, as a loop makes it, with its laws. Assumes nothing.
-use mathlib.Core.Path.{_≡_, refl, sym, ap, _∙_}
-use Prim.Native.Nat.{ℕ, zero, suc, _+_, _≤_, _<_}
+use mathlib.Core.Path.{_≡_, refl, ap}
+use Prim.Native.Nat.{ℕ, zero, suc, _+_, _<_}
 use native.Mathlib.Omega.{arith}
 use native.Mathlib.Numerals.{add-one}
 use mathlib.Core.Bool.{Bool, true, false, _&&_}
 use mathlib.Core.Logic.{_⊎_, inl, inr}
 use lib.Dec.{T}
-use Rattle.basis.specs.Logic.{and-l, and-r, both, is-true}
+use Rattle.basis.specs.Logic.{and-l, and-r, both}
 
 -- the test holds of each number below n
 unfoldable pub below : (ℕ → Bool) → ℕ → Bool

@@ -1,12 +1,12 @@
 -- The tests of "The state buffer" on the bytes themselves, as the check makes them. Assumes nothing.
 use Prim.Native.Nat.{ℕ, zero, suc, _+_, _*_, _-_}
-use mathlib.Core.Bool.{Bool, true, false, not, _&&_, _||_, cond}
+use mathlib.Core.Bool.{Bool, false, not, _&&_, _||_, cond}
 use mathlib.Core.List.{List}
 use lib.ListN.{take, drop, getD}
 use lib.Dec.{leb, ltb, eqb}
 use Rattle.basis.specs.Lists.{all, sameBytes}
 use Rattle.basis.specs.Numbers.{numberAt, bits}
-use Rattle.basis.specs.Sizes.{markWidth, positionWidth, lengthWidth, maskWidth, nextWidth, tupleCountWidth, hostWidth, processWidth, hosts, mostBody, mostMonitors, spaceNumbers, mostSpaces, mostTuples, mostWaiting, lastAt, maskAt, monitorsAt, nextAt, spaceCountAt, tupleCountAt, waitingCountAt, headerSize, spaceSize, tupleSize, waitingBodyAt, waitingSize, spacesAt, waitingAt}
+use Rattle.basis.specs.Sizes.{markWidth, positionWidth, lengthWidth, maskWidth, nextWidth, tupleCountWidth, hostWidth, processWidth, hosts, mostBody, mostMonitors, spaceNumbers, mostSpaces, mostTuples, mostWaiting, lastAt, maskAt, monitorsAt, nextAt, spaceCountAt, tupleCountAt, waitingCountAt, headerSize, spaceSize, tupleSize, waitingBodyAt, waitingSize, spacesAt, tuplesAt, waitingAt}
 use Rattle.model.specs.Statement.{Statement, spacesNamed}
 use Rattle.model.specs.Legal.{legalBody}
 use Rattle.model.specs.Matching.{Tuple}
@@ -43,7 +43,25 @@ countsOk b =
     && leb (spaceCount b) mostSpaces
 
 unfoldable pub headerOk : List ℕ → Bool
-headerOk b = sameBytes stateMark (take markWidth b) && countsOk b && zerosAt b (waitingCountAt + 1) (headerSize - (waitingCountAt + 1))
+headerOk b = sameBytes stateMark (take markWidth b) && countsOk b
+
+-- ---- the bytes that neither the header nor an entry uses
+
+abbrev pub headerLeft : List ℕ → Bool
+headerLeft b = zerosAt b (waitingCountAt + 1) (headerSize - (waitingCountAt + 1))
+
+-- past the first n entries of each section
+abbrev pub spacesLeft : List ℕ → ℕ → Bool
+spacesLeft b n = zerosAt b (spacesAt + n * spaceSize) ((mostSpaces - n) * spaceSize)
+
+abbrev pub tuplesLeft : List ℕ → ℕ → Bool
+tuplesLeft b n = zerosAt b (tuplesAt + n * tupleSize) ((mostTuples - n) * tupleSize)
+
+abbrev pub waitingLeft : List ℕ → ℕ → Bool
+waitingLeft b n = zerosAt b (waitingAt + n * waitingSize) ((mostWaiting - n) * waitingSize)
+
+unfoldable pub unusedOk : List ℕ → Bool
+unusedOk b = headerLeft b && spacesLeft b (spaceCount b) && tuplesLeft b (tupleCount b) && waitingLeft b (waitingCount b)
 
 -- ---- the spaces
 
@@ -62,7 +80,6 @@ spacesOk b =
     eqb (numberAt spacesAt spaceSize b) 0
     && below (spaceOk b) (spaceCount b - 1)
     && ltb (getD b (spacesAt + (spaceCount b - 1) * spaceSize) 0) (nextOf b)
-    && zerosAt b (spacesAt + spaceCount b * spaceSize) ((mostSpaces - spaceCount b) * spaceSize)
 
 -- ---- the access of each space number
 
@@ -91,7 +108,7 @@ unfoldable pub tupleOpen : (table : List ℕ) → List ℕ → ℕ → Bool
 tupleOpen table p i = isEntry (entryAt p i) && ltb 0 (getD table (getD p (i * tupleSize) 0) 0)
 
 unfoldable pub tuplesOk : (table : List ℕ) → List ℕ → (n : ℕ) → Bool
-tuplesOk table p n = below (tupleOpen table p) n && zerosAt p (n * tupleSize) ((mostTuples - n) * tupleSize)
+tuplesOk table p n = below (tupleOpen table p) n
 
 -- ---- the waiting statements
 
@@ -149,9 +166,8 @@ waitOk b i = entryOk b i && (senderOk b i && bodyAllowed b i)
 
 unfoldable pub waitingOk : List ℕ → Bool
 waitingOk b =
-    below (waitOk b) (waitingCount b)
-    && leb (positionBefore b (waitingCount b)) (numberAt lastAt positionWidth b)
-    && zerosAt b (entryFrom (waitingCount b)) ((mostWaiting - waitingCount b) * waitingSize)
+    leb (positionBefore b (waitingCount b)) (numberAt lastAt positionWidth b)
+    && below (waitOk b) (waitingCount b)
 
 -- no guard of a waiting statement holds
 unfoldable pub calm : List ℕ → List Tuple → Bool

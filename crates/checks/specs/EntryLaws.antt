@@ -1,64 +1,30 @@
--- The entry of a waiting statement by its bytes: when it is what it is read as, and where host and process stand. Assumes nothing.
-use mathlib.Core.Path.{_≡_, refl, sym, ap, ap₂, subst, _∙_}
-use mathlib.Core.List.{List, [], _∷_, _++_, append-assoc}
+-- The entry of a waiting statement by its bytes: when it is what it is read as. Assumes nothing.
+use mathlib.Core.Path.{_≡_, refl, sym, ap, _∙_}
+use mathlib.Core.List.{List, [], _++_, append-assoc}
 use mathlib.Core.Option.{Option, none, some, Option·getD}
-use Prim.Native.Nat.{ℕ, suc, _+_, _-_, _*_, _^_, _≤_, _<_}
+use Prim.Native.Nat.{ℕ, _+_, _-_, _≤_, _<_}
 use native.Mathlib.Omega.{arith}
-use lib.ListN.{length, take, drop, getD, length-append, length-drop, take-append-drop}
-use lib.Seq.{take-at, drop-at, take-all, take-add, drop-drop, length-take-le, getD-take}
-use lib.Dec.{T, ltb, ltb→lt}
+use lib.ListN.{length, take, drop, length-append, length-drop, take-append-drop}
+use lib.Seq.{take-all, drop-drop, length-take-le}
+use lib.Dec.{T, ltb→lt}
 use lib.Pow.{areBytes}
 use Rattle.basis.specs.Choice.{isSome}
 use Rattle.basis.specs.Logic.{and-l, and-r}
 use Rattle.basis.specs.Lists.{zeros, pad}
-use Rattle.basis.specs.Numbers.{bigEndian, number, numberAt}
-use Rattle.basis.specs.NumberLaws.{bytes-take, bytes-drop, bigEndian-length, number-bigEndian, number-one}
-use Rattle.basis.specs.PadLaws.{zeros-length, pad-split, numberAt-at}
-use Rattle.basis.specs.Sizes.{positionWidth, lengthWidth, hostWidth, processWidth, hosts, processes, mostBody, waitingBodyAt, waitingSize}
+use Rattle.basis.specs.Numbers.{bigEndian, numberAt}
+use Rattle.basis.specs.NumberLaws.{bytes-take, bytes-drop, bigEndian-length, number-bigEndian}
+use Rattle.basis.specs.PadLaws.{pad-split, numberAt-at}
+use Rattle.basis.specs.Sizes.{positionWidth, lengthWidth, hostWidth, processWidth, hosts, mostBody, waitingBodyAt, waitingSize}
 use Rattle.model.specs.Statement.{Statement}
-use Rattle.model.specs.Reading.{wholeOf, statement}
+use Rattle.model.specs.Reading.{statement}
 use Rattle.model.specs.Legal.{parse, legalBody, legalStatement}
 use Rattle.model.specs.Writing.{countedBytes, branchBytes, statementBytes}
-use Rattle.model.specs.ReadBack.{BodyOf, parse-parts, parse-some}
+use Rattle.model.specs.ReadBack.{parse-parts, parse-some}
 use Rattle.model.specs.RoundTrip.{legal-fits}
 use Rattle.model.specs.Run.{Waiting}
 use Rattle.layout.specs.States.{waitingBytes, noStatement, waitingRead}
+use Rattle.layout.specs.Stored.{statementOf, legal-parse}
 use Rattle.checks.specs.PartLaws.{split-two, written-at}
-
-some-of : {A : Type 0} (o : Option A) → T (isSome o) → (a : A) × (o ≡ some a)
-unfolding isSome
-some-of none t = absurd t
-some-of (some a) t = (a, refl)
-
-pub legal-some : (b : List ℕ) → T (legalBody b) → (st : Statement) × (parse b ≡ some st)
-unfolding legalBody
-legal-some b t = some-of (parse b) t
-
-pub some-legal : (b : List ℕ) (st : Statement) → parse b ≡ some st → T (legalBody b)
-unfolding legalBody isSome
-some-legal b st e = rw e tt
-
--- ---- host and process
-
-host-below : (st : Statement) → T (legalStatement st) → st .host < hosts
-unfolding legalStatement
-host-below st t = ltb→lt (st .host) hosts (search (and-l, and-r, t) depth 16)
-
--- a legal body begins with them
-pub body-front : (b : List ℕ) (st : Statement) → T (areBytes b) → parse b ≡ some st → (3 ≤ length b) × (numberAt 0 hostWidth b ≡ st .host) × (numberAt 1 processWidth b ≡ st .process) × (st .host < hosts)
-unfolding statementBytes
-body-front b st t e =
-    let k = parse-parts b st t e in
-    let f = legal-fits st (k .legal) in
-    let h : List ℕ = bigEndian hostWidth (st .host) in
-    let p : List ℕ = bigEndian processWidth (st .process) in
-    let rest : List ℕ = countedBytes branchBytes (st .branches) in
-    let lh : length h ≡ hostWidth = bigEndian-length hostWidth (st .host) in
-    let lp : length p ≡ processWidth = bigEndian-length processWidth (st .process) in
-    let l : length b ≡ 3 + length rest = sym (ap length (k .bytes)) ∙ length-append h (p ++ rest) ∙ omega (arith, length-append p rest) in
-    let one : numberAt 0 hostWidth (h ++ (p ++ rest)) ≡ st .host = numberAt-at 0 hostWidth [] h (p ++ rest) refl lh ∙ number-bigEndian hostWidth (st .host) (f .host) in
-    let two : numberAt 1 processWidth (h ++ (p ++ rest)) ≡ st .process = numberAt-at 1 processWidth h p rest lh lp ∙ number-bigEndian processWidth (st .process) (f .process) in
-    (omega arith, rw (k .bytes) at one, rw (k .bytes) at two, host-below st (k .legal))
 
 -- ---- the entry
 
@@ -88,9 +54,9 @@ module _ (r : List ℕ) (long : length r ≡ waitingSize) (bytes : T (areBytes r
   pub body-read : T (legalBody (bodyIn r)) → parse (bodyIn r) ≡ some ((waitingRead r) .statement)
   unfolding waitingRead
   body-read t =
-      let k = legal-some (bodyIn r) t in
-      let w = parse-some (bodyIn r) (k .0) (k .1) in
-      k .1 ∙ ap (λ (o : Option Statement). some (Option·getD o noStatement)) (sym (w .whole))
+      let e = legal-parse (bodyIn r) t in
+      let w = parse-some (bodyIn r) (statementOf (bodyIn r)) e in
+      e ∙ ap (λ (o : Option Statement). some (Option·getD o noStatement)) (sym (w .whole))
 
   written-body : T (legalBody (bodyIn r)) → statementBytes ((waitingRead r) .statement) ≡ bodyIn r
   written-body t = parse-parts (bodyIn r) ((waitingRead r) .statement) body-bytes (body-read t) .bytes
@@ -138,8 +104,7 @@ module _ (r : List ℕ) (long : length r ≡ waitingSize) (bytes : T (areBytes r
   entry-back e =
       let w : Waiting = waitingRead r in
       let sb : List ℕ = statementBytes (w .statement) in
-      let k = legal-some sb (e .legal) in
-      let few : length sb ≤ mostBody = (parse-some sb (k .0) (k .1)) .size in
+      let few : length sb ≤ mostBody = (parse-some sb (statementOf sb) (legal-parse sb (e .legal))) .size in
       let p : List ℕ = bigEndian positionWidth (w .position) in
       let n : List ℕ = bigEndian lengthWidth (length sb) in
       let lp : length p ≡ positionWidth = bigEndian-length positionWidth (w .position) in

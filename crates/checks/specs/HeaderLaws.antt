@@ -1,13 +1,13 @@
--- The header's tests one by one. Assumes nothing.
+-- The tests of the header and of the unused bytes one by one. Assumes nothing.
 use mathlib.Core.Path.{_≡_, refl}
 use mathlib.Core.List.{List}
 use Prim.Native.Nat.{ℕ, _≤_}
-use mathlib.Core.Bool.{Bool, true, false, _&&_}
+use mathlib.Core.Bool.{Bool, true, false}
 use lib.ListN.{getD}
-use lib.Dec.{T, leb, leb→le, le→leb}
+use lib.Dec.{T, leb→le, le→leb}
 use Rattle.basis.specs.Logic.{and-l, and-r, both}
 use Rattle.basis.specs.Sizes.{mostMonitors, spaceNumbers, mostSpaces, mostTuples, mostWaiting, monitorsAt}
-use Rattle.checks.specs.Checks.{nextOf, spaceCount, tupleCount, waitingCount, countsOk}
+use Rattle.checks.specs.Checks.{nextOf, spaceCount, tupleCount, waitingCount, countsOk, headerLeft, spacesLeft, tuplesLeft, waitingLeft, unusedOk}
 
 -- a test that does not hold
 pub refused : (t : Bool) → (T t → ⊥) → false ≡ t
@@ -55,3 +55,29 @@ of-counts b k =
     let some = le→leb 1 (spaceCount b) (k .some) in
     let spaces = le→leb (spaceCount b) mostSpaces (k .spaces) in
     search (both, monitors, next, tuples, waiting, some, spaces) depth 10
+
+-- "All unused bytes are zero"
+pub record Unused (b : List ℕ) : Type 0 where
+  pub header : T (headerLeft b)
+  pub spaces : T (spacesLeft b (spaceCount b))
+  pub tuples : T (tuplesLeft b (tupleCount b))
+  pub waiting : T (waitingLeft b (waitingCount b))
+
+pub unused-of : (b : List ℕ) → T (unusedOk b) → Unused b
+unfolding unusedOk
+unused-of b t =
+    record {
+      header = search (and-l, and-r, t) depth 6;
+      spaces = search (and-l, and-r, t) depth 6;
+      tuples = search (and-l, and-r, t) depth 6;
+      waiting = search (and-l, and-r, t) depth 6;
+    }
+
+pub of-unused : (b : List ℕ) → Unused b → T (unusedOk b)
+unfolding unusedOk
+of-unused b u =
+    let header = u .header in
+    let spaces = u .spaces in
+    let tuples = u .tuples in
+    let waiting = u .waiting in
+    search (both, header, spaces, tuples, waiting) depth 6

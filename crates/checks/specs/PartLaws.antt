@@ -1,21 +1,21 @@
 -- The bytes of a state in their four parts: they are what they are read as exactly if each part is, and when the header is. Assumes nothing.
 use mathlib.Core.Path.{_≡_, refl, sym, ap, ap₂, subst, _∙_}
-use mathlib.Core.List.{List, [], _∷_, _++_, append-assoc}
-use Prim.Native.Nat.{ℕ, zero, suc, _+_, _-_, _*_, _^_, _≤_, _<_}
+use mathlib.Core.List.{List, _∷_, _++_}
+use Prim.Native.Nat.{ℕ, zero, suc, _+_, _-_, _^_, _≤_, _<_}
 use native.Mathlib.Omega.{arith}
 use native.Mathlib.Numerals.{add-one}
 use lib.ListN.{length, take, drop, getD, length-append, length-drop, length-map, take-append-drop}
-use lib.Seq.{take-at, drop-at, drop-cons, take-all, take-add, take-suc, drop-drop, getD-drop, length-take-le}
+use lib.Seq.{take-at, drop-at, drop-cons, take-all, take-add, drop-drop, length-take-le}
 use lib.Dec.{T}
 use lib.Pow.{areBytes}
 use Rattle.basis.specs.Lists.{zeros, pad, pieces}
-use Rattle.basis.specs.Numbers.{bigEndian, number, numberAt, mask, bits}
-use Rattle.basis.specs.NumberLaws.{bytes-take, bytes-drop, bytes-cons, numberAt-lt, bigEndian-number}
-use Rattle.basis.specs.PadLaws.{zeros-length, pad-length, pad-split, mask-bits}
+use Rattle.basis.specs.Numbers.{bigEndian, number, numberAt}
+use Rattle.basis.specs.NumberLaws.{bytes-take, bytes-drop, numberAt-lt, bigEndian-number}
+use Rattle.basis.specs.PadLaws.{pad-length, pad-split, mask-bits}
 use Rattle.basis.specs.Sizes.{markWidth, positionWidth, maskWidth, nextWidth, tupleCountWidth, hosts, lastAt, maskAt, monitorsAt, nextAt, spaceCountAt, tupleCountAt, waitingCountAt, headerSize, spaceSize, tupleSize, waitingSize, spacesSize, tuplesSize, waitingAllSize, spacesAt, tuplesAt, waitingAt, stateSize}
 use Rattle.layout.specs.States.{stateMark, headerBytes, spaceBytes, tupleBytes, waitingBytes, area, encode, byteAt, spaceRead, tupleRead, waitingRead, entries, decode}
 use Rattle.layout.specs.StateLaws.{area-length}
-use Rattle.tuples.specs.Rows.{pieces-length}
+use Rattle.refusals.specs.Entries.{entries-length}
 
 -- ---- two parts
 
@@ -82,10 +82,6 @@ byte-before at n b h = rw (add-one at, drop-cons b at 0 h)
 
 number-before : (at w n : ℕ) (b : List ℕ) → T (areBytes b) → at + w ≤ length b → bigEndian w (numberAt at w b) ++ take n (drop (at + w) b) ≡ take (w + n) (drop at b)
 number-before at w n b t h = rw (written-at at w b t h, ← drop-drop w at b, ← take-add w n (drop at b))
-
-pub entries-length : {A : Type 0} (read : List ℕ → A) (n w at : ℕ) (b : List ℕ) → length (entries read n w at b) ≡ n
-unfolding entries
-entries-length read n w at b = length-map (pieces n w (drop at b)) read ∙ pieces-length n w (drop at b)
 
 -- from the waiting count back to the last position
 abbrev used : ℕ

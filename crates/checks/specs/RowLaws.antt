@@ -1,36 +1,22 @@
 -- What stands in an entry stands in the bytes at the entry's offset; numbers that rise from each to the next rise. Assumes nothing.
-use mathlib.Core.Path.{_≡_, refl, sym, ap, subst, _∙_}
+use mathlib.Core.Path.{_≡_, sym, ap, _∙_}
 use mathlib.Core.List.{List, [], _∷_}
 use mathlib.Core.Logic.{_⊎_, inl, inr}
-use Prim.Native.Nat.{ℕ, zero, suc, _+_, _-_, _*_, _≤_, _<_}
+use Prim.Native.Nat.{ℕ, zero, suc, _+_, _≤_, _<_}
 use native.Mathlib.Omega.{arith}
 use native.Mathlib.Numerals.{add-one}
 use lib.ListN.{length, take, drop, getD, length-drop}
 use lib.Seq.{take-take, drop-drop, getD-take, getD-drop, length-take-le}
-use lib.Dec.{T, eqb, ltb, lt→ltb}
+use lib.Dec.{T}
 use lib.Pow.{areBytes}
 use Rattle.basis.specs.Numbers.{number, numberAt}
 use Rattle.basis.specs.NumberLaws.{bytes-cons}
-use Rattle.words.specs.OverLaws.{drop-take}
-use Rattle.words.specs.Over.{zerosAt}
-use Rattle.words.specs.ZeroLaws.{zerosAt→zeros}
+use Rattle.refusals.specs.Entries.{take-drop-take}
 use Rattle.checks.specs.Below.{last-or}
-
--- bytes one by one are bytes
-pub are-bytes : (l : List ℕ) → ((k : ℕ) → getD l k 0 < 256) → T (areBytes l)
-are-bytes [] h = tt
-are-bytes (b ∷ l) h = bytes-cons b l (h 0) (are-bytes l (λ k. h (suc k)))
 
 -- a part of an entry
 pub part-in : (w at i k : ℕ) (b : List ℕ) → i + k ≤ w → take k (drop i (take w (drop at b))) ≡ take k (drop (at + i) b)
-part-in w at i k b h =
-    let q : List ℕ = drop at b in
-    let r : List ℕ = take w q in
-    sym (drop-take i k r) ∙ ap (drop i) (take-take (i + k) w q h) ∙ drop-take i k q ∙ ap (take k) (drop-drop i at b)
-
-pub number-in : (w at i k : ℕ) (b : List ℕ) → i + k ≤ w → numberAt i k (take w (drop at b)) ≡ numberAt (at + i) k b
-unfolding numberAt
-number-in w at i k b h = ap number (part-in w at i k b h)
+part-in w at i k b h = take-drop-take i k w (drop at b) h ∙ ap (take k) (drop-drop i at b)
 
 pub byte-in : (w at i : ℕ) (b : List ℕ) → i < w → getD (take w (drop at b)) i 0 ≡ getD b (at + i) 0
 byte-in w at i b h = getD-take w (drop at b) i 0 h ∙ getD-drop at b i 0

@@ -1,30 +1,29 @@
 -- The spaces of a state by their bytes. Assumes nothing.
-use mathlib.Core.Path.{_≡_, refl, sym, ap, subst, _∙_}
-use mathlib.Core.List.{List, [], _∷_, _++_}
+use mathlib.Core.Path.{_≡_, refl, sym, ap, _∙_}
+use mathlib.Core.List.{List, [], _∷_}
 use mathlib.Core.Logic.{_⊎_, inl, inr}
 use Prim.Native.Nat.{ℕ, zero, suc, _+_, _-_, _*_, _/_, _%_, _≤_, _<_}
 use native.Mathlib.Omega.{arith}
 use native.Mathlib.Numerals.{add-one}
 use mathlib.Core.Bool.{Bool, true, false, not, _&&_, cond}
 use lib.ListN.{length, take, drop, getD}
-use lib.Dec.{T, leb, ltb, eqb, eqb→eq, eqb-refl, leb→le, ltb→lt, lt→ltb}
+use lib.Dec.{T, ltb, eqb, eqb→eq, ltb→lt, lt→ltb}
 use lib.Pow.{areBytes}
 use borrow.Author.Tests.{eq-eqb, ne-eqb}
-use Rattle.basis.specs.Logic.{and-l, and-r, both, is-true, true-is}
+use Rattle.basis.specs.Logic.{and-l, and-r, both, true-is}
 use Rattle.basis.specs.Lists.{zeros, pad}
 use Rattle.basis.specs.Numbers.{bigEndian, number, numberAt}
-use Rattle.basis.specs.NumberLaws.{bytes-head, bytes-tail, bytes-take, bytes-drop, number-one}
+use Rattle.basis.specs.NumberLaws.{bytes-head, bytes-tail, bytes-take, bytes-drop}
 use Rattle.basis.specs.Sizes.{processWidth, mostSpaces, spaceSize, spacesSize, spacesAt, stateSize}
-use Rattle.model.specs.Run.{Access, shared, private, Space, Run}
+use Rattle.model.specs.Run.{shared, private, Space}
 use Rattle.model.specs.Valid.{isShared, zeroShared, spacesRise, spacesBelowNext}
-use Rattle.layout.specs.States.{accessBytes, spaceBytes, area, byteAt, spaceRead, entries, decode}
+use Rattle.layout.specs.States.{accessBytes, spaceBytes, area, byteAt, spaceRead, decode}
+use Rattle.refusals.specs.Entries.{number-in}
 use Rattle.words.specs.WordLaws.{numberAt-1, numberAt-2, numberAt-4}
-use Rattle.words.specs.Over.{zerosAt}
-use Rattle.words.specs.ZeroLaws.{zerosAt→zeros, zeros→zerosAt}
 use Rattle.checks.specs.Below.{below, below-at, below-of, last-or}
-use Rattle.checks.specs.Checks.{nextOf, spaceCount, accessOk, spaceOk, spacesOk}
+use Rattle.checks.specs.Checks.{nextOf, spaceCount, spacesLeft, accessOk, spaceOk, spacesOk}
 use Rattle.checks.specs.AreaLaws.{row, row-from, all-entries, entries-all, any-entries, entries-any, pairwise-entries, entries-pairwise, area-same, area-back}
-use Rattle.checks.specs.RowLaws.{part-in, number-in, byte-in, row-length, rising}
+use Rattle.checks.specs.RowLaws.{byte-in, row-length, rising}
 
 -- ---- an entry
 
@@ -74,14 +73,14 @@ access-in : (b : List ℕ) (at : ℕ) → accessOk (take spaceSize (drop at b)) 
 unfolding accessOk
 access-in b at =
     let e : at + 2 ≡ at + 1 + 1 = omega arith in
-    rw (byte-in spaceSize at 1 b (omega arith), number-in spaceSize at 2 2 b (omega arith), e)
+    rw (byte-in spaceSize at 1 b (omega arith), number-in at spaceSize 2 2 b (omega arith), e)
 
 -- its number
 pub number-of : (b : List ℕ) (at : ℕ) → at + spaceSize ≤ length b → (spaceRead (take spaceSize (drop at b))) .number ≡ getD b at 0
 unfolding spaceRead
 number-of b at h =
     let e : at + 0 ≡ at = omega arith in
-    number-in spaceSize at 0 1 b (omega arith) ∙ rw e (numberAt-1 at b (omega arith))
+    number-in at spaceSize 0 1 b (omega arith) ∙ rw e (numberAt-1 at b (omega arith))
 
 -- shared: its kind is not 1
 shared-of : (b : List ℕ) (at : ℕ) → isShared ((spaceRead (take spaceSize (drop at b))) .access) ≡ not (eqb (getD b (at + 1) 0) 1)
@@ -157,7 +156,6 @@ module _ (b : List ℕ) (bytes : T (areBytes b)) (long : length b ≡ stateSize)
     first : numberAt spacesAt spaceSize b ≡ 0
     next : (i : ℕ) → i + 1 < count → (getD b (spaceAt i) 0 < getD b (spaceAt (i + 1)) 0) × T (accessOk b (spaceAt (i + 1) + 1))
     last : getD b (spaceAt (count - 1)) 0 < nextOf b
-    rest : T (zerosAt b (spaceAt count) ((mostSpaces - count) * spaceSize))
 
   -- where the next entry begins
   after : (i : ℕ) → spaceAt i + spaceSize ≡ spaceAt (i + 1)
@@ -174,7 +172,6 @@ module _ (b : List ℕ) (bytes : T (areBytes b)) (long : length b ≡ stateSize)
           and-r (ltb (getD b (spaceAt i) 0) (getD b (spaceAt (i + 1)) 0)) (accessOk b (spaceAt (i + 1) + 1)) u,
         );
         last = ltb→lt (getD b (spaceAt (count - 1)) 0) (nextOf b) (search (and-l, and-r, t) depth 8);
-        rest = search (and-l, and-r, t) depth 8;
       }
 
   test : Tested → T (spacesOk b)
@@ -184,11 +181,7 @@ module _ (b : List ℕ) (bytes : T (areBytes b)) (long : length b ≡ stateSize)
       (both (ltb (getD b (spaceAt i) 0) (getD b (spaceAt (i + 1)) 0)) (accessOk b (spaceAt (i + 1) + 1)) (lt→ltb (getD b (spaceAt i) 0) (getD b (spaceAt (i + 1)) 0) (u .0)) (u .1))) in
       let first : T (eqb (numberAt spacesAt spaceSize b) 0) = true-is (eqb (numberAt spacesAt spaceSize b) 0) (eq-eqb (numberAt spacesAt spaceSize b) 0 (f .first)) in
       let last : T (ltb (getD b (spaceAt (count - 1)) 0) (nextOf b)) = lt→ltb (getD b (spaceAt (count - 1)) 0) (nextOf b) (f .last) in
-      let rest = f .rest in
-      search (both, first, each, last, rest) depth 8
-
-  left : (mostSpaces - count) * spaceSize ≡ spacesSize - count * spaceSize
-  left = omega arith
+      search (both, first, each, last) depth 8
 
   -- kind and owner of each
   access-each : Tested → (i : ℕ) → i < count → T (accessOk b (spaceAt i + 1))
@@ -213,14 +206,13 @@ module _ (b : List ℕ) (bytes : T (areBytes b)) (long : length b ≡ stateSize)
       go (inl e) = rw e (f .last)
       go (inr l) = let a = numbers-rise f i (count - 1) l (omega arith) in let z = f .last in omega arith
 
-  pub spaces-good : T (spacesOk b) → Spaces b
+  pub spaces-good : T (spacesOk b) → T (spacesLeft b count) → Spaces b
   unfolding decode byteAt spacesRise zeroShared spacesBelowNext
-  spaces-good t =
+  spaces-good t rest =
       let f : Tested = tested t in
       let z = zero-bytes (f .first) in
-      let zeros-left : take (spacesSize - count * spaceSize) (drop (spaceAt count) b) ≡ zeros (spacesSize - count * spaceSize) = zerosAt→zeros b (spaceAt count) (spacesSize - count * spaceSize) (omega arith) (rw left at (f .rest)) in
       record {
-        same = area-same spaceRead spaceBytes spacesSize spaceSize count spacesAt b (omega arith) (omega arith) (λ i h. space-same i (omega arith) (access-each f i h)) zeros-left;
+        same = area-same spaceRead spaceBytes mostSpaces spaceSize count spacesAt b few (omega arith) (λ i h. space-same i (omega arith) (access-each f i h)) rest;
         rise = entries-pairwise (λ x y. ltb (x .number) (y .number)) spaceRead count spaceSize spacesAt b
             (λ i j h k. rw (number-at i (omega arith), number-at j (omega arith)) (lt→ltb (getD b (spaceAt i) 0) (getD b (spaceAt j) 0) (numbers-rise f i j h k)));
         zero = entries-any (λ x. eqb (x .number) 0 && isShared (x .access)) spaceRead count spaceSize spacesAt b 0 (omega arith)
@@ -234,7 +226,7 @@ module _ (b : List ℕ) (bytes : T (areBytes b)) (long : length b ≡ stateSize)
   pub good-spaces : Spaces b → T (spacesOk b)
   unfolding decode byteAt spacesRise zeroShared spacesBelowNext
   good-spaces s =
-      let a = area-back spaceRead spaceBytes spacesSize spaceSize count spacesAt b (omega arith) (omega arith) (s .same) in
+      let a = area-back spaceRead spaceBytes mostSpaces spaceSize count spacesAt b few (omega arith) (s .same) in
       let access : (i : ℕ) → i < count → T (accessOk b (spaceAt i + 1)) = λ i h. space-back i (omega arith) (a .0 i h) in
       let rise : (i j : ℕ) → i < j → j < count → getD b (spaceAt i) 0 < getD b (spaceAt j) 0 =
       λ i j h k. ltb→lt (getD b (spaceAt i) 0) (getD b (spaceAt j) 0) (rw (number-at i (omega arith), number-at j (omega arith)) at (pairwise-entries (λ x y. ltb (x .number) (y .number)) spaceRead count spaceSize spacesAt b (s .rise) i j h k)) in
@@ -244,7 +236,6 @@ module _ (b : List ℕ) (bytes : T (areBytes b)) (long : length b ≡ stateSize)
         first = first-zero rise access (any-entries (λ x. eqb (x .number) 0 && isShared (x .access)) spaceRead count spaceSize spacesAt b (s .zero));
         next = λ i h. (rise i (i + 1) (omega arith) h, access (i + 1) h);
         last = below-next;
-        rest = rw left (zeros→zerosAt b (spaceAt count) (spacesSize - count * spaceSize) (a .1));
       }
     where
       first-zero : ((i j : ℕ) → i < j → j < count → getD b (spaceAt i) 0 < getD b (spaceAt j) 0) → ((i : ℕ) → i < count → T (accessOk b (spaceAt i + 1)))

@@ -1,33 +1,24 @@
 -- The access of each space number says which spaces are open, and which are open to a process. Assumes nothing.
-use mathlib.Core.Path.{_≡_, refl, sym, ap, subst, _∙_}
-use mathlib.Core.List.{List, [], _∷_, _++_, map}
-use Prim.Native.Nat.{ℕ, zero, suc, _+_, _-_, _*_, _≤_, _<_}
+use mathlib.Core.Path.{_≡_, refl, sym, ap, _∙_}
+use mathlib.Core.List.{List, [], _∷_, _++_}
+use Prim.Native.Nat.{ℕ, zero, suc, _+_, _*_, _≤_, _<_}
 use native.Mathlib.Omega.{arith}
-use native.Mathlib.Numerals.{add-one}
 use mathlib.Core.Bool.{Bool, true, false, not, _&&_, _||_, cond}
 use lib.ListN.{length, take, drop, getD}
-use lib.Dec.{T, T-not, ltb, eqb, eqb→eq, eqb-refl}
+use lib.Dec.{ltb, eqb}
 use borrow.Author.Tests.{eq-eqb, ne-eqb, eqb-true, eqb-false, lt-ltb}
-use Rattle.basis.specs.Logic.{is-false, false-is}
 use Rattle.basis.specs.Lists.{any, pieces}
 use Rattle.basis.specs.Numbers.{numberAt}
 use Rattle.basis.specs.Sizes.{processWidth, mostSpaces, spaceSize, spacesAt, stateSize}
-use Rattle.model.specs.Run.{Access, shared, private, Space, isOpen, deniedTo, isDenied}
+use Rattle.model.specs.Run.{shared, private, Space, isOpen, deniedTo, isDenied}
 use Rattle.layout.specs.States.{byteAt, spaceRead, entries}
 use Rattle.tuples.specs.Rows.{pieces-more, map-append}
+use Rattle.refusals.specs.WalkLaws.{any-append}
+use Rattle.refusals.specs.Entries.{number-in}
 use Rattle.checks.specs.Checks.{codeAt, codeOf, opens, markOf}
 use Rattle.checks.specs.AreaLaws.{row, row-from}
-use Rattle.checks.specs.RowLaws.{number-in, byte-in}
+use Rattle.checks.specs.RowLaws.{byte-in}
 use Rattle.checks.specs.SpaceLaws.{spaceAt, number-of}
-
-any-append : {A : Type 0} (p : A → Bool) (l k : List A) → any p (l ++ k) ≡ (any p l || any p k)
-unfolding any
-any-append p [] k = refl
-any-append p (a ∷ l) k = rw (any-append p l k) (assoc (p a) (any p l) (any p k))
-  where
-    assoc : (a b c : Bool) → (a || (b || c)) ≡ ((a || b) || c)
-    assoc true b c = refl
-    assoc false b c = refl
 
 or-false : (a : Bool) → (a || false) ≡ a
 or-false true = refl
@@ -67,7 +58,7 @@ code-some b at = go (eqb (getD b (at + 1) 0) 1) (numberAt (at + 2) processWidth 
 code-opens : (b : List ℕ) (at p : ℕ) → not (deniedTo p ((spaceRead (take spaceSize (drop at b))) .access)) ≡ opens (codeAt b at) p
 unfolding codeAt spaceRead byteAt deniedTo opens
 code-opens b at p =
-    rw (byte-in spaceSize at 1 b (omega arith), number-in spaceSize at 2 2 b (omega arith)) (go (eqb (getD b (at + 1) 0) 1) (numberAt (at + 2) processWidth b))
+    rw (byte-in spaceSize at 1 b (omega arith), number-in at spaceSize 2 2 b (omega arith)) (go (eqb (getD b (at + 1) 0) 1) (numberAt (at + 2) processWidth b))
   where
     same : (owner : ℕ) (t : Bool) → eqb owner p ≡ t → not (not t) ≡ eqb (2 + owner) (2 + p)
     same owner true q = sym (eq-eqb (2 + owner) (2 + p) (ap (λ (n : ℕ). 2 + n) (eqb-true owner p q)))

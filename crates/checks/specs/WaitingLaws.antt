@@ -1,24 +1,25 @@
 -- The waiting statements of a state by their bytes. Assumes nothing.
-use mathlib.Core.Path.{_≡_, refl, sym, ap, subst, _∙_}
+use mathlib.Core.Path.{_≡_, refl, sym, ap, _∙_}
 use mathlib.Core.List.{List, [], _∷_, List·Memᴰ·head, List·Memᴰ·tail}
 use mathlib.Core.Logic.{_⊎_, inl, inr}
 use mathlib.Core.Option.{Option, none, some, Option·getD}
-use Prim.Native.Nat.{ℕ, zero, suc, _+_, _-_, _*_, _≤_, _<_}
+use Prim.Native.Nat.{ℕ, zero, suc, _+_, _-_, _≤_, _<_}
 use native.Mathlib.Omega.{arith}
 use native.Mathlib.Numerals.{add-one}
-use mathlib.Core.Bool.{Bool, true, false, not, _&&_}
+use mathlib.Core.Bool.{Bool, not, _&&_}
 use lib.ListN.{length, take, drop, getD, length-drop}
 use lib.Seq.{length-take-le}
 use lib.Dec.{T, leb, ltb, eqb, leb→le, le→leb, ltb→lt, lt→ltb}
 use lib.Pow.{areBytes}
 use Rattle.basis.specs.Logic.{and-l, and-r, both}
 use Rattle.basis.specs.ListLaws.{Each}
-use Rattle.basis.specs.Lists.{all, zeros, pad}
-use Rattle.basis.specs.Numbers.{numberAt, bits}
+use Rattle.basis.specs.Lists.{all, zeros}
+use Rattle.basis.specs.Numbers.{numberAt}
 use Rattle.basis.specs.NumberLaws.{bytes-take, bytes-drop}
-use Rattle.basis.specs.Sizes.{positionWidth, lengthWidth, maskWidth, hostWidth, processWidth, hosts, mostBody, spaceNumbers, mostSpaces, mostWaiting, lastAt, maskAt, waitingBodyAt, waitingSize, waitingAllSize, waitingAt, stateSize}
+use Rattle.basis.specs.Sizes.{positionWidth, lengthWidth, hostWidth, processWidth, hosts, mostBody, mostSpaces, mostWaiting, lastAt, waitingBodyAt, waitingSize, waitingAllSize, waitingAt, stateSize}
 use Rattle.model.specs.Statement.{Statement, spacesNamed}
-use Rattle.model.specs.Legal.{parse, legalBody}
+use Rattle.model.specs.Legal.{parse, legalBody, legalStatement}
+use Rattle.model.specs.ReadBack.{parse-some}
 use Rattle.model.specs.Writing.{statementBytes}
 use Rattle.model.specs.Execution.{canWait}
 use Rattle.model.specs.Run.{Waiting, hostUp, isOpen, isDenied}
@@ -28,13 +29,15 @@ use Rattle.words.specs.WordLaws.{numberAt-1}
 use Rattle.words.specs.Over.{zerosAt}
 use Rattle.words.specs.ZeroLaws.{zerosAt→zeros, zeros→zerosAt}
 use Rattle.layout.specs.Stored.{statementOf}
+use Rattle.refusals.specs.Entries.{number-in}
+use Rattle.refusals.specs.Head.{head-of}
 use Rattle.checks.specs.Below.{below, below-at, below-of, last-or}
-use Rattle.checks.specs.Checks.{spaceCount, waitingCount, codeOf, opens, entryFrom, positionOf, lengthOf, bodyOf, hostOf, processOf, positionBefore, entryOk, processNew, spacesOpen, senderOk, bodyAllowed, waitOk, waitingOk}
+use Rattle.checks.specs.Checks.{spaceCount, waitingCount, waitingLeft, codeOf, opens, entryFrom, positionOf, lengthOf, bodyOf, hostOf, processOf, positionBefore, entryOk, processNew, spacesOpen, senderOk, bodyAllowed, waitOk, waitingOk}
 use Rattle.checks.specs.AreaLaws.{row, row-from, all-entries, entries-all, pairwise-entries, entries-pairwise, area-same, area-back}
-use Rattle.checks.specs.RowLaws.{part-in, number-in, byte-in, row-length, rising}
+use Rattle.checks.specs.RowLaws.{part-in, row-length, rising}
 use Rattle.checks.specs.SpaceLaws.{spaceAt}
 use Rattle.checks.specs.TableLaws.{open-to}
-use Rattle.checks.specs.EntryLaws.{legal-some, body-front, bodyEnd, bodyIn, Entry, EntryBytes, body-read, entry-good, entry-back}
+use Rattle.checks.specs.EntryLaws.{bodyEnd, bodyIn, Entry, EntryBytes, body-read, entry-good, entry-back}
 
 -- what the conditions on waiting statements say of the run that some bytes say, but that none is ready
 pub record Waits (b : List ℕ) : Type 0 where
@@ -77,6 +80,11 @@ pub record Shape (b : List ℕ) (i : ℕ) : Type 0 where
   pub size : lengthOf b i ≤ mostBody
   pub legal : T (legalBody (bodyOf b i))
   pub rest : T (zerosAt b (entryFrom i + waitingBodyAt + lengthOf b i) (mostBody - lengthOf b i))
+
+-- the host of a legal statement
+host-below : (st : Statement) → T (legalStatement st) → st .host < hosts
+unfolding legalStatement
+host-below st t = ltb→lt (st .host) hosts (search (and-l, and-r, t) depth 16)
 
 module _ (b : List ℕ) where
   -- the tests of an entry
@@ -125,10 +133,10 @@ module _ (b : List ℕ) (bytes : T (areBytes b)) (long : length b ≡ stateSize)
   unfolding waitingRead
   position-is i =
       let e : entryFrom i + 0 ≡ entryFrom i = omega arith in
-      ap (numberAt 0 positionWidth) (entry-from i) ∙ number-in waitingSize (entryFrom i) 0 positionWidth b (omega arith) ∙ ap (λ (o : ℕ). numberAt o positionWidth b) e
+      ap (numberAt 0 positionWidth) (entry-from i) ∙ number-in (entryFrom i) waitingSize 0 positionWidth b (omega arith) ∙ ap (λ (o : ℕ). numberAt o positionWidth b) e
 
   length-is : (i : ℕ) → numberAt positionWidth lengthWidth (entry i) ≡ lengthOf b i
-  length-is i = ap (numberAt positionWidth lengthWidth) (entry-from i) ∙ number-in waitingSize (entryFrom i) positionWidth lengthWidth b (omega arith)
+  length-is i = ap (numberAt positionWidth lengthWidth) (entry-from i) ∙ number-in (entryFrom i) waitingSize positionWidth lengthWidth b (omega arith)
 
   -- its body
   body-is : (i : ℕ) → lengthOf b i ≤ mostBody → bodyIn (entry i) ≡ bodyOf b i
@@ -163,7 +171,6 @@ module _ (b : List ℕ) (bytes : T (areBytes b)) (long : length b ≡ stateSize)
 
   -- the statement of a legal body, and where its host and process stand
   pub record Read (i : ℕ) : Type 0 where
-    pub parsed : parse (bodyOf b i) ≡ some ((said i) .statement)
     pub statement : statementOf (bodyOf b i) ≡ (said i) .statement
     pub host : hostOf b i ≡ (said i) .statement .host
     pub below : hostOf b i < hosts
@@ -177,17 +184,17 @@ module _ (b : List ℕ) (bytes : T (areBytes b)) (long : length b ≡ stateSize)
       let body : List ℕ = bodyOf b i in
       let e : parse body ≡ some st = rw (body-is i size) at (body-read (entry i) (entry-length i h) (entry-bytes i) (rw (body-is i size) (s .legal))) in
       let at : ℕ = entryFrom i + waitingBodyAt in
-      let k = body-front body st (bytes-take (lengthOf b i) (drop at b) (bytes-drop at b bytes)) e in
+      let p = parse-some body st e in
+      let k = head-of body st (p .whole) in
       let long-body : length body ≡ lengthOf b i = length-take-le (lengthOf b i) (drop at b) (simp length-drop (omega arith)) in
-      let three : 3 ≤ lengthOf b i = let m = k .0 in omega arith in
+      let four : 4 ≤ lengthOf b i = let m = k .long in omega arith in
       let z : at + 0 ≡ at = omega arith in
-      let host : hostOf b i ≡ st .host = sym (numberAt-1 at b (omega arith)) ∙ ap (λ (o : ℕ). numberAt o hostWidth b) (sym z) ∙ sym (number-in (lengthOf b i) at 0 hostWidth b (omega arith)) ∙ k .1 in
+      let host : hostOf b i ≡ st .host = sym (numberAt-1 at b (omega arith)) ∙ ap (λ (o : ℕ). numberAt o hostWidth b) (sym z) ∙ sym (number-in at (lengthOf b i) 0 hostWidth b (omega arith)) ∙ k .host in
       record {
-        parsed = e;
         statement = ap (λ (o : Option Statement). Option·getD o noStatement) e;
         host = host;
-        below = rw host (k .3);
-        process = sym (number-in (lengthOf b i) at hostWidth processWidth b (omega arith)) ∙ k .2;
+        below = rw host (host-below st (p .legal));
+        process = sym (number-in at (lengthOf b i) hostWidth processWidth b (omega arith)) ∙ k .process;
       }
 
   -- what is allowed, of the statement
@@ -221,19 +228,17 @@ module _ (b : List ℕ) (bytes : T (areBytes b)) (long : length b ≡ stateSize)
         shapes : (i : ℕ) → i < count → Shape b i
         allowed : (i : ℕ) → i < count → T (senderOk b i && bodyAllowed b i)
         end : positionBefore b count ≤ last
-        rest : T (zerosAt b (entryFrom count) ((mostWaiting - count) * waitingSize))
 
       all-tested : T (waitingOk b) → Tested
       unfolding waitingOk waitOk
       all-tested t =
-          let each : T (below (waitOk b) count) = search (and-l, and-r, t) depth 6 in
+          let each : T (below (waitOk b) count) = search (and-r, t) depth 6 in
           let one : (i : ℕ) → i < count → T (entryOk b i && (senderOk b i && bodyAllowed b i)) = below-at (waitOk b) count each in
           record {
             rising = λ i h. tested b i (and-l (entryOk b i) (senderOk b i && bodyAllowed b i) (one i h)) .0;
             shapes = λ i h. tested b i (and-l (entryOk b i) (senderOk b i && bodyAllowed b i) (one i h)) .1;
             allowed = λ i h. and-r (entryOk b i) (senderOk b i && bodyAllowed b i) (one i h);
-            end = leb→le (positionBefore b count) last (search (and-l, and-r, t) depth 6);
-            rest = search (and-l, and-r, t) depth 6;
+            end = leb→le (positionBefore b count) last (search (and-l, t) depth 6);
           }
 
       test-all : Tested → T (waitingOk b)
@@ -242,15 +247,11 @@ module _ (b : List ℕ) (bytes : T (areBytes b)) (long : length b ≡ stateSize)
           let each : T (below (waitOk b) count) =
           below-of (waitOk b) count (λ i h. both (entryOk b i) (senderOk b i && bodyAllowed b i) (test b i (f .rising i h) (f .shapes i h)) (f .allowed i h)) in
           let end : T (leb (positionBefore b count) last) = le→leb (positionBefore b count) last (f .end) in
-          let rest = f .rest in
-          search (both, each, end, rest) depth 6
+          search (both, end, each) depth 6
 
       -- the shape of each
       pub waits-shapes : T (waitingOk b) → (i : ℕ) → i < count → Shape b i
       waits-shapes t = all-tested t .shapes
-
-      left : (mostWaiting - count) * waitingSize ≡ waitingAllSize - count * waitingSize
-      left = omega arith
 
       -- the positions rise
       positions-rise : Tested → (i j : ℕ) → i < j → j < count → positionOf b i < positionOf b j
@@ -267,9 +268,9 @@ module _ (b : List ℕ) (bytes : T (areBytes b)) (long : length b ≡ stateSize)
           go end (inl e) = rw e end
           go end (inr l) = let r = positions-rise f i (count - 1) l (omega arith) in omega arith
 
-      pub waits-good : T (waitingOk b) → Waits b
+      pub waits-good : T (waitingOk b) → T (waitingLeft b count) → Waits b
       unfolding decode byteAt waitingRise positionsFit bodiesLegal waitingHostsUp processesDiffer namedSpacesOpen waitingCanWait
-      waits-good t =
+      waits-good t rest =
           let f : Tested = all-tested t in
           let kept : (i : ℕ) → i < count → Entry (entry i) = λ i h. entry-good (entry i) (entry-length i (omega arith)) (entry-bytes i) (shape-bytes i (omega arith) (f .shapes i h)) in
           let allowed : (i : ℕ) → i < count → T (hostUp (decode b) ((said i) .statement .host) && processNew b i && (openToProcess (decode b) (said i) && canWait ((said i) .statement))) =
@@ -280,8 +281,7 @@ module _ (b : List ℕ) (bytes : T (areBytes b)) (long : length b ≡ stateSize)
           let new : T (processNew b j) = search (and-l, and-r, u) depth 6 in
           rw (read-of i (omega arith) (f .shapes i (omega arith)) .process, read-of j (omega arith) (f .shapes j k) .process) at (process-new b j new i h) in
           record {
-            same = area-same waitingRead waitingBytes waitingAllSize waitingSize count waitingAt b (omega arith) (omega arith) (λ i h. kept i h .same)
-                (zerosAt→zeros b (entryFrom count) (waitingAllSize - count * waitingSize) (omega arith) (rw left at (f .rest)));
+            same = area-same waitingRead waitingBytes mostWaiting waitingSize count waitingAt b few (omega arith) (λ i h. kept i h .same) rest;
             rise = entries-pairwise (λ v w. ltb (v .position) (w .position)) waitingRead count waitingSize waitingAt b
                 (λ i j h k. rw (position-is i, position-is j) (lt→ltb (positionOf b i) (positionOf b j) (positions-rise f i j h k)));
             positions = entries-all (λ w. leb 1 (w .position) && leb (w .position) last) waitingRead count waitingSize waitingAt b
@@ -297,7 +297,7 @@ module _ (b : List ℕ) (bytes : T (areBytes b)) (long : length b ≡ stateSize)
       pub good-waits : Waits b → T (waitingOk b)
       unfolding decode byteAt waitingRise positionsFit bodiesLegal waitingHostsUp processesDiffer namedSpacesOpen waitingCanWait
       good-waits s =
-          let a = area-back waitingRead waitingBytes waitingAllSize waitingSize count waitingAt b (omega arith) (omega arith) (s .same) in
+          let a = area-back waitingRead waitingBytes mostWaiting waitingSize count waitingAt b few (omega arith) (s .same) in
           let shapes : (i : ℕ) → i < count → Shape b i =
           λ i h. bytes-shape i (omega arith) (entry-back (entry i) (entry-length i (omega arith)) (entry-bytes i)
           (record { same = a .0 i h; legal = all-entries (λ w. legalBody (statementBytes (w .statement))) waitingRead count waitingSize waitingAt b (s .bodies) i h })) in
@@ -322,7 +322,6 @@ module _ (b : List ℕ) (bytes : T (areBytes b)) (long : length b ≡ stateSize)
             shapes = shapes;
             allowed = allowed;
             end = before-end high count (omega arith);
-            rest = rw left (zeros→zerosAt b (entryFrom count) (waitingAllSize - count * waitingSize) (a .1));
           }
         where
           before-rises : ((i : ℕ) → i < count → 1 ≤ positionOf b i) → ((i j : ℕ) → i < j → j < count → positionOf b i < positionOf b j) → (i : ℕ) → i < count → positionBefore b i < positionOf b i

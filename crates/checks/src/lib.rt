@@ -9,7 +9,7 @@ ghost use Rattle.model.specs.Execution.{ready};
 ghost use Rattle.layout.specs.IsState.{isState};
 ghost use Rattle.tuples.specs.Section.{tuplesOf};
 ghost use Rattle.layout.specs.Stored.{statementOf};
-ghost use Rattle.checks.specs.Checks.{spaceCount, waitingCount, countsOk, headerOk, accessOk, spaceOk, spacesOk, codeAt, opens, markOf, tupleOpen, tuplesOk, lengthOf, bodyOf, processOf, positionBefore, entryOk, processNew, spacesOpen, senderOk, bodyAllowed, waitOk, waitingOk, calm};
+ghost use Rattle.checks.specs.Checks.{spaceCount, waitingCount, countsOk, headerOk, unusedOk, accessOk, spaceOk, spacesOk, codeAt, opens, markOf, tupleOpen, tuplesOk, lengthOf, bodyOf, processOf, positionBefore, entryOk, processNew, spacesOpen, senderOk, bodyAllowed, waitOk, waitingOk, calm};
 ghost use Rattle.checks.specs.HeaderLaws.{Counts};
 ghost use Rattle.checks.specs.TupleLaws.{sectionOf};
 ghost use Rattle.checks.specs.WaitingLaws.{Shape};
@@ -52,7 +52,7 @@ fn counts_ok(b: &[u8]) -> bool
     spaces <= words::MOST_SPACES
 }
 
-// The mark, the counts, and the unused bytes of the header.
+// The mark and the counts.
 fn header_ok(b: &[u8]) -> bool
     requires { ⌜ length (now b) ≡ stateSize ⌝ }
     ensures { λ r. ⌜ r ≡ headerOk (now (b .entry)) ⌝ }
@@ -60,11 +60,40 @@ fn header_ok(b: &[u8]) -> bool
     if !words::has_mark(b, b"TS") {
         return false;
     }
-    if !counts_ok(b) {
+    counts_ok(b)
+}
+
+// "All unused bytes are zero": those of the header, and those past the spaces, the tuples and the waiting statements.
+fn unused_ok(b: &[u8]) -> bool
+    requires { ⌜ (length (now b) ≡ stateSize) × Counts (now b) ⌝ }
+    ensures { λ r. ⌜ r ≡ unusedOk (now (b .entry)) ⌝ }
+{
+    let used = words::WAITING_COUNT_AT + 1;
+    if !words::zero_run(b, used, words::HEADER - used) {
         return false;
     }
-    let used = words::WAITING_COUNT_AT + 1;
-    words::zero_run(b, used, words::HEADER - used)
+    let spaces = words::size(b[words::SPACE_COUNT_AT]);
+    if !words::zero_run(
+        b,
+        words::SPACES_AT + spaces * words::SPACE,
+        (words::MOST_SPACES - spaces) * words::SPACE,
+    ) {
+        return false;
+    }
+    let tuples = words::word2(b, words::TUPLE_COUNT_AT) as usize;
+    if !words::zero_run(
+        b,
+        words::TUPLES_AT + tuples * words::TUPLE,
+        (words::MOST_TUPLES - tuples) * words::TUPLE,
+    ) {
+        return false;
+    }
+    let waiting = words::size(b[words::WAITING_COUNT_AT]);
+    words::zero_run(
+        b,
+        words::WAITING_AT + waiting * words::WAITING,
+        (words::MOST_WAITING - waiting) * words::WAITING,
+    )
 }
 
 // A kind and its owner: shared, whose owner is 0, or private.
@@ -91,7 +120,7 @@ fn space_ok(b: &[u8], i: usize) -> bool
     access_ok(b, next + KIND_AT)
 }
 
-// The open spaces: space 0, which is shared, first, rising to below the next number, and unused bytes.
+// The open spaces: space 0, which is shared, first, rising to below the next number.
 fn spaces_ok(b: &[u8]) -> bool
     requires { ⌜ (length (now b) ≡ stateSize) × Counts (now b) ⌝ }
     ensures { λ r. ⌜ r ≡ spacesOk (now (b .entry)) ⌝ }
@@ -107,16 +136,8 @@ fn spaces_ok(b: &[u8]) -> bool
         }
         i += 1;
     }
-    if words::word2(b, words::NEXT_AT) as usize
-        <= words::size(b[words::SPACES_AT + i * words::SPACE])
-    {
-        return false;
-    }
-    words::zero_run(
-        b,
-        words::SPACES_AT + n * words::SPACE,
-        (words::MOST_SPACES - n) * words::SPACE,
-    )
+    let last = words::size(b[words::SPACES_AT + i * words::SPACE]);
+    last < words::word2(b, words::NEXT_AT) as usize
 }
 
 // The access of a space: 1 shared, 2 + owner private.
@@ -175,7 +196,7 @@ fn tuple_open(tuples: &[u8], i: usize, table: &[u8; TABLE]) -> bool
     0 < table[space]
 }
 
-// The n tuples of the section, and its unused bytes.
+// The n tuples of the section.
 fn tuples_ok(tuples: &[u8], n: usize, table: &[u8; TABLE]) -> bool
     requires { ⌜ (length (now tuples) ≡ tuplesSize) × (n ≤ mostTuples) ⌝ }
     ensures { λ r. ⌜ r ≡ tuplesOk (now (table .entry)) (now (tuples .entry)) n ⌝ }
@@ -187,11 +208,7 @@ fn tuples_ok(tuples: &[u8], n: usize, table: &[u8; TABLE]) -> bool
         }
         i += 1;
     }
-    words::zero_run(
-        tuples,
-        n * words::TUPLE,
-        (words::MOST_TUPLES - n) * words::TUPLE,
-    )
+    true
 }
 
 // The position of the waiting statement before the one at index i; 0: there is none.
@@ -310,12 +327,15 @@ fn wait_ok(b: &[u8], i: usize) -> bool
     body_allowed(b, i)
 }
 
-// The waiting statements up to the last position, and the unused bytes.
+// "waiting positions are 1 to the last", and each waiting statement.
 fn waiting_ok(b: &[u8]) -> bool
     requires { ⌜ (length (now b) ≡ stateSize) × Counts (now b) ⌝ }
     ensures { λ r. ⌜ r ≡ waitingOk (now (b .entry)) ⌝ }
 {
     let n = words::size(b[words::WAITING_COUNT_AT]);
+    if words::word4(b, words::LAST_AT) < position_before(b, n) {
+        return false;
+    }
     let mut i = 0;
     while i < n {
         if !wait_ok(b, i) {
@@ -323,14 +343,7 @@ fn waiting_ok(b: &[u8]) -> bool
         }
         i += 1;
     }
-    if words::word4(b, words::LAST_AT) < position_before(b, n) {
-        return false;
-    }
-    words::zero_run(
-        b,
-        words::WAITING_AT + n * words::WAITING,
-        (words::MOST_WAITING - n) * words::WAITING,
-    )
+    true
 }
 
 // Whether a guard of the statement that waits at index i holds.
@@ -363,9 +376,9 @@ fn none_ready(b: &[u8], tuples: usize) -> bool
     true
 }
 
-// Tuples and waiting statements, of bytes whose header and spaces are those of a state.
+// Tuples and waiting statements, of bytes whose header, unused bytes and spaces are those of a state.
 fn entries_ok(b: &[u8]) -> bool
-    requires { ⌜ (length (now b) ≡ stateSize) × Counts (now b) × T (headerOk (now b)) × T (spacesOk (now b)) ⌝ }
+    requires { ⌜ (length (now b) ≡ stateSize) × Counts (now b) × T (headerOk (now b)) × T (unusedOk (now b)) × T (spacesOk (now b)) ⌝ }
     ensures { λ r. ⌜ r ≡ isState (now (b .entry)) ⌝ }
 {
     let open = open_table(b, true, 0);
@@ -387,6 +400,9 @@ pub fn is_state(b: &[u8]) -> bool
         return false;
     }
     if !header_ok(b) {
+        return false;
+    }
+    if !unused_ok(b) {
         return false;
     }
     if !spaces_ok(b) {

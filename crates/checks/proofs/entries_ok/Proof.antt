@@ -40,7 +40,7 @@ none-ready-requires : tie.Need-none-ready-requires
 none-ready-requires c κs = (c .before .before .before .before .before .before .before .before .before .pre .0, c .before .before .before .before .before .before .before .before .before .pre .1, omega arith, shapes-of _ _ (c .before .waiting-ok .ensures) (not-false _ (c .if2 .left)))
 
 returns-3 : tie.Need-returns-3
-returns-3 c = then-calm _ (λ k. c .before .before .before .before .before .before .before .before .before .shared-slice-known .given k .fits) (c .before .before .before .before .before .before .before .before .before .before .pre .0) _ (c .before .before .before .before .before .before .before .before .open-table .ensures) _ (c .before .before .before .before .before .before .before .word2 .ensures) _ (c .before .before .before .before .tuples-ok .ensures) (c .before .before .before .before .before .before .before .before .before .before .pre .2) (c .before .before .before .before .before .before .before .before .before .before .pre .3) (not-false _ (c .before .before .before .if1 .left)) _ (c .before .before .waiting-ok .ensures) (not-false _ (c .before .if2 .left)) _ (c .none-ready .ensures)
+returns-3 c = then-calm _ (λ k. c .before .before .before .before .before .before .before .before .before .shared-slice-known .given k .fits) (c .before .before .before .before .before .before .before .before .before .before .pre .0) _ (c .before .before .before .before .before .before .before .before .open-table .ensures) _ (c .before .before .before .before .before .before .before .word2 .ensures) _ (c .before .before .before .before .tuples-ok .ensures) (c .before .before .before .before .before .before .before .before .before .before .pre .2) (c .before .before .before .before .before .before .before .before .before .before .pre .3) (c .before .before .before .before .before .before .before .before .before .before .pre .4) (not-false _ (c .before .before .before .if1 .left)) _ (c .before .before .waiting-ok .ensures) (not-false _ (c .before .if2 .left)) _ (c .none-ready .ensures)
 
 pub entries-ok-spec : {M : Type 1} → statement M
 entries-ok-spec =

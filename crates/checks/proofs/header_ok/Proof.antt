@@ -1,8 +1,8 @@
 -- `checks::header_ok` meets its contract. Assumes nothing.
+use Rattle.checks.specs.Checks.{headerOk}
 use mathlib.Core.Path.{sym, _∙_}
 use borrow.Author.Tests.{not-true, not-false}
 use borrow.Author.Needs.{needs}
-use Rattle.checks.specs.Checks.{headerOk}
 use Rattle.checks.proofs.header_ok.Statement.{statement}
 use Rattle.checks.proofs.header_ok.Tie as tie
 
@@ -18,30 +18,7 @@ counts-ok-requires c κs = search needs
 
 returns-2 : tie.Need-returns-2
 unfolding headerOk
-returns-2 c = rw (sym (c .before .before .before .has-mark .ensures) ∙ not-false _ (c .before .before .if1 .left), sym (c .before .counts-ok .ensures) ∙ not-true _ (c .if2 .taken))
-
-add-used : tie.Need-add-used
-add-used c = search needs
-
-sub-zero-run : tie.Need-sub-zero-run
-sub-zero-run c = search needs
-
-zero-run-requires : tie.Need-zero-run-requires
-zero-run-requires c κs = search needs
-
-returns-3 : tie.Need-returns-3
-unfolding headerOk
-returns-3 c = rw (sym (c .before .before .before .before .has-mark .ensures) ∙ not-false _ (c .before .before .before .if1 .left), sym (c .before .before .counts-ok .ensures) ∙ not-false _ (c .before .if2 .left), c .zero-run .ensures)
+returns-2 c = rw (sym (c .before .before .has-mark .ensures) ∙ not-false _ (c .before .if1 .left), c .counts-ok .ensures)
 
 pub header-ok-spec : {M : Type 1} → statement M
-header-ok-spec =
-    tie.close
-    (tie.spec
-    has-mark-requires
-    returns
-    counts-ok-requires
-    returns-2
-    add-used
-    sub-zero-run
-    zero-run-requires
-    returns-3)
+header-ok-spec = tie.close (tie.spec has-mark-requires returns counts-ok-requires returns-2)

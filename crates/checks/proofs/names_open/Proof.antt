@@ -1,5 +1,4 @@
 -- `checks::names_open` meets its contract. Assumes nothing.
-use native.Mathlib.Omega.{arith}
 use Rattle.checks.proofs.Waiting.{part-legal, all-named}
 use borrow.Author.Needs.{needs}
 use Rattle.checks.proofs.names_open.Statement.{statement}

@@ -9,7 +9,7 @@ use Rattle.model.specs.Execution.{ready}
 use Prim.Native.Nat.{_-_, _≤_}
 use mathlib.Core.Bool.{true, not}
 use native.Mathlib.Omega.{arith}
-use mathlib.Core.Path.{_≡_, sym, _∙_}
+use mathlib.Core.Path.{_≡_}
 use borrow.Author.Needs.{needs}
 use Rattle.checks.proofs.none_ready.Statement.{statement}
 use Rattle.checks.proofs.none_ready.Tie as tie

@@ -1,7 +1,7 @@
 -- `checks::tuple_open` meets its contract. Assumes nothing.
 use Rattle.checks.specs.Checks.{tupleOpen}
 use borrow.Author.Tests.{not-true, not-false}
-use mathlib.Core.Path.{_≡_, sym, _∙_}
+use mathlib.Core.Path.{sym, _∙_}
 use borrow.Author.Needs.{needs}
 use Rattle.checks.proofs.tuple_open.Statement.{statement}
 use Rattle.checks.proofs.tuple_open.Tie as tie

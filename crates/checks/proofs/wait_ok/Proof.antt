@@ -3,7 +3,7 @@ use Rattle.checks.specs.WaitingLaws.{shape-of}
 use Rattle.checks.specs.Checks.{waitOk}
 use Rattle.basis.specs.Logic.{true-is}
 use borrow.Author.Tests.{not-true, not-false}
-use mathlib.Core.Path.{_≡_, sym, _∙_}
+use mathlib.Core.Path.{sym, _∙_}
 use borrow.Author.Needs.{needs}
 use Rattle.checks.proofs.wait_ok.Statement.{statement}
 use Rattle.checks.proofs.wait_ok.Tie as tie

@@ -1,0 +1,74 @@
+-- `steps::handle_close` meets its contract. Assumes nothing.
+use native.Mathlib.Omega.{arith}
+use Rattle.layout.specs.States.{decode}
+use Rattle.model.specs.Step.{closeSpace, askingHost, askingProcess}
+use Rattle.steps.specs.HandleLaws.{none-refuses, may-close, settle-other, handled-refused, handled-done}
+use borrow.Author.Needs.{needs}
+use Rattle.steps.proofs.handle_close.Statement.{statement}
+use Rattle.steps.proofs.handle_close.Tie as tie
+
+refuse-close-requires : tie.Need-refuse-close-requires
+refuse-close-requires c κs = search needs
+
+refuse-requires : tie.Need-refuse-requires
+refuse-requires c κs = search needs
+
+same-length : tie.Need-same-length
+same-length c = search needs
+
+same-length-2 : tie.Need-same-length-2
+same-length-2 c = search needs
+
+returns : tie.Need-returns
+unfolding askingHost askingProcess
+returns c =
+    let s = c .before .before .before .before .before .before .before .before .before .before in
+    let a = s .args in
+    let k = c .before .before .before .before .before .before .refuse-close in
+    let d = c .before .before .refuse in
+    handled-refused (decode (a .state .now)) (closeSpace (a .host) (a .process) (a .space)) (k .result) (a .out .now) (a .state .now) (d .last .1 .1 .1 .1 .0) (d .result) (k .ensures) (c .before .before .before .before .before .if1 .taken) (d .ensures)
+
+take-close-requires : tie.Need-take-close-requires
+take-close-requires c κs =
+    let s = c .before .before .before .before .before .before .before in
+    let a = s .args in
+    let k = c .before .before .before .refuse-close in
+    let z = none-refuses (decode (a .state .now)) (closeSpace (a .host) (a .process) (a .space)) (k .result) (k .ensures) (c .before .before .if1 .left) in
+    (s .pre .0, may-close (decode (a .state .now)) (a .host) (a .process) (a .space) z, omega (arith, s .pre .2))
+
+settle-requires : tie.Need-settle-requires
+settle-requires c κs =
+    let s = c .before .before .before .before .before .before .before .before .before .before .before .before .before .before in
+    let a = s .args in
+    let d = c .before .before .before .before .before .before .take-close in
+    settle-other (decode (a .state .now)) (closeSpace (a .host) (a .process) (a .space)) (a .out .now) (d .last .0) (d .last .1 .0) (d .result) tt (d .ensures) (omega (arith, s .pre .2, d .kept .1 .0))
+
+same-length-3 : tie.Need-same-length-3
+same-length-3 c = search needs
+
+same-length-4 : tie.Need-same-length-4
+same-length-4 c = search needs
+
+returns-2 : tie.Need-returns-2
+returns-2 c =
+    let s = c .before .before .before .before .before .before .before .before .before .before .before .before .before .before .before .before .before .before .before in
+    let a = s .args in
+    let k = c .before .before .before .before .before .before .before .before .before .before .before .before .before .before .before .refuse-close in
+    let d = c .before .before .before .before .before .before .before .before .before .before .before .take-close in
+    let f = c .before .before .before .before .settle in
+    handled-done (decode (a .state .now)) (closeSpace (a .host) (a .process) (a .space)) (k .result) (a .out .now) (d .last .1 .0) (f .last .1 .0) (d .last .0) (f .last .0) (d .result) (f .result) (k .ensures) (c .before .before .before .before .before .before .before .before .before .before .before .before .before .before .if1 .left) (d .ensures) (f .ensures)
+
+pub handle-close-spec : {M : Type 1} → statement M
+handle-close-spec =
+    tie.close
+    (tie.spec
+    refuse-close-requires
+    refuse-requires
+    same-length
+    same-length-2
+    returns
+    take-close-requires
+    settle-requires
+    same-length-3
+    same-length-4
+    returns-2)

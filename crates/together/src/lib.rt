@@ -1,0 +1,1 @@
+// The contracts of the exported functions beside the claim: a theorem in specs/ alone.
