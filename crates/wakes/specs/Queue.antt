@@ -15,11 +15,11 @@ use Rattle.basis.specs.Sizes.{positionWidth, lengthWidth, mostBody, waitingBody
 use Rattle.model.specs.Execution.{ready}
 use Rattle.model.specs.Run.{Waiting, Run, withWaiting, Turn}
 use Rattle.layout.specs.States.{decode}
-use Rattle.layout.specs.Stored.{Stored, IsStored, Turned, statementOf}
+use Rattle.layout.specs.Stored.{IsStored, Turned, statementOf}
 use Rattle.words.specs.Over.{over}
 use Rattle.words.specs.OverLaws.{over-take, over-front}
 use Rattle.tuples.specs.Section.{tuplesOf}
-use Rattle.records.specs.StoredLaws.{stored-says, stored-length, waiting-count}
+use Rattle.records.specs.StoredLaws.{stored-length, waiting-count}
 use Rattle.refusals.specs.Places.{waitingOf, waiting-from, waitingPlace, waits-at}
 use Rattle.refusals.specs.Names.{part-size, part-legal, part-statement}
 use Rattle.wakes.specs.Turned.{MayRun, executed, noWaiting, place, readyAt, oldestReady, wokenAt}
@@ -67,23 +67,23 @@ module _ (b : List ℕ) (i : ℕ) (h : IsStored b) (below : i < length ((decode 
       copy-statement : statementOf (take n l) ≡ waitingOf b i .statement
       copy-statement = rw copy-is at (part-statement b i n (waitingPlace i + waitingBodyAt) h waits e refl)
 
-      module _ (t : List ℕ) (gone : Stored t (withWaiting (decode b) (removeAt i ((decode b) .waiting)))) where
-        -- it may run in the state that it has left
-        pub woken-may : MayRun (decode t) (take n l)
-        woken-may =
-            let w = waits-at b i h waits in
-            record {
-              legal = rw copy-is at (part-legal b i n (waitingPlace i + waitingBodyAt) h waits e refl);
-              opened = rw (copy-statement, stored-says t _ gone) (λ k m. h .fit .waiting .each (waitingOf b i) (w .member) .named k m .0);
-            }
+      -- it may run in a state with the same spaces
+      pub woken-may : (t : Run) → t .spaces ≡ (decode b) .spaces → MayRun t (take n l)
+      woken-may t same =
+          let w = waits-at b i h waits in
+          record {
+            legal = rw copy-is at (part-legal b i n (waitingPlace i + waitingBodyAt) h waits e refl);
+            opened = rw (copy-statement, same) (λ k m. h .fit .waiting .each (waitingOf b i) (w .member) .named k m .0);
+          }
 
-        pub woken-turn : (p : ℕ) (buffer state out : List ℕ) (m : ℕ) → p ≡ numberAt (waitingPlace i) positionWidth b
-            → Turned (executed (decode t) p (statementOf (take n l))) buffer state out m → Turned (wokenAt (decode b) i) buffer state out m
-        unfolding wokenAt
-        woken-turn p buffer state out m ep r =
-            let at : p ≡ (place (decode b) i) .position = ep ∙ waits-at b i h waits .position ∙ ap (λ (w : Waiting). w .position) place-is in
-            let same : statementOf (take n l) ≡ (place (decode b) i) .statement = copy-statement ∙ ap (λ (w : Waiting). w .statement) place-is in
-            subst (λ (u : Turn). Turned u buffer state out m) (λ k. executed (stored-says t _ gone k) (at k) (same k)) r
+      -- once it has left the queue, what it does is its turn
+      pub woken-turn : (t : Run) (p : ℕ) (buffer state out : List ℕ) (m : ℕ) → t ≡ withWaiting (decode b) (removeAt i ((decode b) .waiting)) → p ≡ numberAt (waitingPlace i) positionWidth b
+          → Turned (executed t p (statementOf (take n l))) buffer state out m → Turned (wokenAt (decode b) i) buffer state out m
+      unfolding wokenAt
+      woken-turn t p buffer state out m gone ep r =
+          let at : p ≡ (place (decode b) i) .position = ep ∙ waits-at b i h waits .position ∙ ap (λ (w : Waiting). w .position) place-is in
+          let same : statementOf (take n l) ≡ (place (decode b) i) .statement = copy-statement ∙ ap (λ (w : Waiting). w .statement) place-is in
+          subst (λ (u : Turn). Turned u buffer state out m) (λ k. executed (gone k) (at k) (same k)) r
 
 -- ---- the search
 

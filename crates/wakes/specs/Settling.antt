@@ -86,23 +86,25 @@ still-left : (s : Run) (buffer state out : List ℕ) (n : ℕ) → wake s ≡ no
 unfolding woken still repliesBytes flatMap
 still-left s buffer state out n e t = let k = rw e at t in (k .stored, k .bytes)
 
-module _ (s₀ : Run) (own at n : ℕ) (buffer state out state′ p : List ℕ) (room : own ≤ length buffer) (m : Midway s₀ (decode state) own at buffer out)
-    (r : Turned (woken (decode state)) (take (length out - at) (drop at out)) state′ p n) where
-  pub turn-shorter : (n ≡ 0 → ⊥) → suc (length ((decode state′) .waiting)) ≡ length ((decode state) .waiting)
-  turn-shorter z = rw (stored-says state′ _ (r .stored)) (wake-shorter (decode state) (woken (decode state)) (told-some (decode state) n (r .number) z))
+-- one is woken: the queue is shorter
+pub turn-shorter : (s : Run) (buffer state out : List ℕ) (n : ℕ) → Turned (woken s) buffer state out n → (n ≡ 0 → ⊥) → suc (length ((decode state) .waiting)) ≡ length (s .waiting)
+turn-shorter s buffer state out n r z = rw (stored-says state _ (r .stored)) (wake-shorter s (woken s) (told-some s n (r .number) z))
 
-  pub turn-more : (n ≡ 0 → ⊥) → Midway s₀ (decode state′) own (at + n) buffer (take at out ++ (p ++ drop (length out - at) (drop at out)))
-  turn-more z =
-      let s : Run = decode state in
+module _ (s₀ s : Run) (own at : ℕ) (buffer out : List ℕ) (m : Midway s₀ s own at buffer out) where
+  -- one is woken: its reply stands past those told
+  pub turn-more : (state p : List ℕ) (n : ℕ) → own ≤ length buffer → Turned (woken s) (take (length out - at) (drop at out)) state p n → (n ≡ 0 → ⊥)
+      → Midway s₀ (decode state) own (at + n) buffer (take at out ++ (p ++ drop (length out - at) (drop at out)))
+  turn-more state p n room r z =
       let R : List ℕ = repliesBytes ((woken s) .replies) in
       let e : p ≡ R ++ drop (length R) (drop at out) = r .bytes ∙ ap (λ (l : List ℕ). R ++ drop (length R) l) (rest-lent at out) in
-      subst (λ (u : Run). Midway s₀ u own (at + n) buffer (take at out ++ (p ++ drop (length out - at) (drop at out)))) (sym (stored-says state′ _ (r .stored)))
+      subst (λ (u : Run). Midway s₀ u own (at + n) buffer (take at out ++ (p ++ drop (length out - at) (drop at out)))) (sym (stored-says state _ (r .stored)))
       (midway-turn s₀ s own at n buffer out (take at out ++ (p ++ drop (length out - at) (drop at out))) room m (told-some s n (r .number) z) (r .number) (rest-back at out p ∙ ap (λ (l : List ℕ). take at out ++ l) e))
 
-  pub turn-end : n ≡ 0 → Further (settle s₀) own buffer state′ (take at out ++ (p ++ drop (length out - at) (drop at out))) at
-  turn-end z =
-      let s : Run = decode state in
+  -- none is: all is told, whatever part was lent
+  pub turn-end : (state p : List ℕ) (n k : ℕ) → Turned (woken s) (take (length out - k) (drop k out)) state p n → n ≡ 0
+      → Further (settle s₀) own buffer state (take k out ++ (p ++ drop (length out - k) (drop k out))) at
+  turn-end state p n k r z =
       let w : wake s ≡ none = told-none s n (r .number) z in
-      let k = still-left s (take (length out - at) (drop at out)) state′ p n w r in
-      let e : take at out ++ (p ++ drop (length out - at) (drop at out)) ≡ out = rest-back at out p ∙ ap (λ (l : List ℕ). take at out ++ l) (k .1 ∙ rest-lent at out) ∙ take-append-drop at out in
-      rw e (midway-end s₀ s own at buffer state′ out m w (k .0))
+      let q = still-left s (take (length out - k) (drop k out)) state p n w r in
+      let e : take k out ++ (p ++ drop (length out - k) (drop k out)) ≡ out = rest-back k out p ∙ ap (λ (l : List ℕ). take k out ++ l) (q .1 ∙ rest-lent k out) ∙ take-append-drop k out in
+      rw e (midway-end s₀ s own at buffer state out m w (q .0))

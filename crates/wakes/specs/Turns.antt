@@ -10,7 +10,7 @@ use lib.Dec.{T-not}
 use Rattle.basis.specs.Choice.{maybe}
 use Rattle.basis.specs.Lists.{Found, first, removeAt}
 use Rattle.basis.specs.ListLaws.{first-some, first-below}
-use Rattle.basis.specs.Sizes.{waitingCountAt}
+use Rattle.basis.specs.Sizes.{replyHeaderSize, waitingCountAt}
 use Rattle.model.specs.Execution.{Executed, attempt, tuplesAfter}
 use Rattle.model.specs.Run.{Waiting, Run, withTuples, withWaiting, ranReply, Turn, wokenBy, wake}
 use Rattle.model.specs.Settle.{attempt-none, wake-some}
@@ -68,7 +68,7 @@ module _ (s : Run) where
           }
 
   -- a turn has bytes
-  woken-long : (t : Turn) → wake s ≡ some t → 12 ≤ length (repliesBytes (t .replies))
+  woken-long : (t : Turn) → wake s ≡ some t → replyHeaderSize ≤ length (repliesBytes (t .replies))
   unfolding wokenBy
   woken-long t e =
       let w = wake-some s t e in

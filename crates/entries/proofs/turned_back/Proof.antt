@@ -22,7 +22,7 @@ returns-2 : tie.Need-returns-2
 returns-2 c =
     let a = c .before .before .before .before .before .before .args in
     let s = c .before .before .is-state in
-    back-2 (a .state .now) (a .input .now) (a .reply .now) (s .result) (s .ensures) (not-false _ (c .before .if1 .left)) (c .if2 .taken)
+    back-2 (a .state .now) (a .input .now) (a .reply .now) (s .result) (s .ensures) (not-false _ (c .before .if1 .left)) (omega (arith, c .if2 .taken))
 
 is-record-requires : tie.Need-is-record-requires
 is-record-requires c κs = search needs
@@ -32,7 +32,7 @@ returns-3 c =
     let a = c .before .before .before .before .before .before .before .before .args in
     let s = c .before .before .before .before .is-state in
     let i = c .before .is-record in
-    back-3 (a .state .now) (a .input .now) (a .reply .now) (s .result) (s .ensures) (not-false _ (c .before .before .before .if1 .left)) (i .result) (c .before .before .if2 .left) (i .ensures) (not-true _ (c .if3 .taken))
+    back-3 (a .state .now) (a .input .now) (a .reply .now) (s .result) (s .ensures) (not-false _ (c .before .before .before .if1 .left)) (i .result) (omega (arith, c .before .before .if2 .left)) (i .ensures) (not-true _ (c .if3 .taken))
 
 word4-requires : tie.Need-word4-requires
 word4-requires c κs =
@@ -56,7 +56,7 @@ returns-4 c =
     let l = c .before .before .word4 in
     let p = c .before .word42 in
     let d = c .out-of-turn in
-    back-turn (a .state .now) (a .input .now) (a .reply .now) (s .result) (s .ensures) (not-false _ (c .before .before .before .before .before .before .if1 .left)) (i .result) (l .result) (p .result) (d .result) (c .before .before .before .before .before .if2 .left) (i .ensures) (not-false _ (c .before .before .before .if3 .left)) (l .ensures) (p .ensures) (d .ensures)
+    back-turn (a .state .now) (a .input .now) (a .reply .now) (s .result) (s .ensures) (not-false _ (c .before .before .before .before .before .before .if1 .left)) (i .result) (l .result) (p .result) (d .result) (omega (arith, c .before .before .before .before .before .if2 .left)) (i .ensures) (not-false _ (c .before .before .before .if3 .left)) (l .ensures) (p .ensures) (d .ensures)
 
 pub turned-back-spec : {M : Type 1} → statement M
 turned-back-spec =

@@ -52,7 +52,7 @@ returns-2 c =
     let w = c .before .before .before .before .before .before .before .before .before .can-wait in
     let n = c .before .before .before .before .before .before .size in
     let d = c .before .before .refuse-body2 in
-    unmet-13 (decode (a .state .now)) (a .body .now) (w .result) (n .result) (a .out .now) (a .state .now) (d .last .1 .1 .1 .0) (d .result) (w .ensures) (not-false _ (c .before .before .before .before .before .before .before .before .if1 .left)) (n .ensures .0 ∙ waiting-count (a .state .now)) (c .before .before .before .before .before .if2 .taken) (d .ensures)
+    unmet-13 (decode (a .state .now)) (a .body .now) (w .result) (n .result) (a .out .now) (a .state .now) (d .last .1 .1 .1 .0) (d .result) (w .ensures) (not-false _ (c .before .before .before .before .before .before .before .before .if1 .left)) (n .ensures .0 ∙ waiting-count (a .state .now)) (omega (arith, c .before .before .before .before .before .if2 .taken)) (d .ensures)
 
 enqueue-requires : tie.Need-enqueue-requires
 enqueue-requires c κs =
@@ -70,7 +70,7 @@ returns-3 c =
     let w = c .before .before .before .before .before .before .before .before .can-wait in
     let n = c .before .before .before .before .before .size in
     let d = c .before .before .enqueue in
-    unmet-waits (decode (a .state .now)) (a .body .now) (s .pre .1) (bytes-of (a .body .now) (λ k. c .before .before .before .before .before .before .before .before .before .before .shared-slice-known .given k .fits)) (s .pre .2) (s .pre .3) (s .pre .0 .fit) (w .result) (n .result) (d .last .0) (a .out .now) (w .ensures) (not-false _ (c .before .before .before .before .before .before .before .if1 .left)) (n .ensures .0 ∙ waiting-count (a .state .now)) (c .before .before .before .before .if2 .left) (d .ensures)
+    unmet-waits (decode (a .state .now)) (a .body .now) (s .pre .1) (bytes-of (a .body .now) (λ k. c .before .before .before .before .before .before .before .before .before .before .shared-slice-known .given k .fits)) (s .pre .2) (s .pre .3) (s .pre .0 .fit) (w .result) (n .result) (d .last .0) (a .out .now) (w .ensures) (not-false _ (c .before .before .before .before .before .before .before .if1 .left)) (n .ensures .0 ∙ waiting-count (a .state .now)) (omega (arith, c .before .before .before .before .if2 .left)) (d .ensures)
 
 pub unmet-spec : {M : Type 1} → statement M
 unmet-spec =

@@ -2,12 +2,19 @@
 use native.Mathlib.Omega.{arith}
 use borrow.Author.Needs.{needs}
 use borrow.Rule.Slice.PartMut.{same-len-mid}
+use Rattle.basis.specs.Sizes.{tuplesAt, tuplesSize}
 use Rattle.records.specs.StoredLaws.{stored-length}
 use Rattle.engine.specs.Fields.{length-mapped}
 use Rattle.engine.specs.Variables.{Sixteen}
 use Rattle.wakes.specs.Attempts.{bytes-each, lent-section, left}
 use Rattle.wakes.proofs.attempt_in.Statement.{statement}
 use Rattle.wakes.proofs.attempt_in.Tie as tie
+
+-- the arrays of the answer
+sixteen : (c : tie.After-attempt) → Sixteen (c .attempt .result .vars)
+sixteen c =
+    let k = c .attempt .ok .1 .1 .1 .1 .1 .0 .1 in
+    (search (length-mapped, k), search (length-mapped, k), search (length-mapped, k))
 
 word2-requires : tie.Need-word2-requires
 word2-requires c κs = omega (arith, stored-length _ _ (c .before .before .before .pre .0))
@@ -30,25 +37,16 @@ attempt-requires c κs =
     (lent-section (start .args .state .now) (c .before .word2 .result) (start .pre .0) (c .before .word2 .ensures), start .pre .1 .legal)
 
 cast-put2 : tie.Need-cast-put2
-cast-put2 c =
-    let att = c .before .before .before .before in
-    let start = att .before .before .before .before .before .before in
-    omega (arith, att .attempt .ensures .holds .few)
+cast-put2 c = omega (arith, c .before .before .before .before .attempt .ensures .holds .few)
 
 put2-requires : tie.Need-put2-requires
 put2-requires c κs =
     let att = c .before .before .before .before in
     let start = att .before .before .before .before .before .before in
-    omega (arith, stored-length _ _ (start .pre .0), same-len-mid 192 16384 (start .args .state .now) (att .attempt .last .0) (att .attempt .kept .0))
+    omega (arith, stored-length _ _ (start .pre .0), same-len-mid tuplesAt tuplesSize (start .args .state .now) (att .attempt .last .0) (att .attempt .kept .0))
 
 same-length : tie.Need-same-length
 same-length c = search needs
-
--- the arrays of the answer
-sixteen : (c : tie.After-attempt) → Sixteen (c .attempt .result .vars)
-sixteen c =
-    let k = c .attempt .ok .1 .1 .1 .1 .1 .0 .1 in
-    (search (length-mapped, k), search (length-mapped, k), search (length-mapped, k))
 
 returns : tie.Need-returns
 returns c =

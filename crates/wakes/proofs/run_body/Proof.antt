@@ -46,8 +46,7 @@ same-length-3 c = search needs
 returns-2 : tie.Need-returns-2
 returns-2 c =
     let att = c .before .before .before .before .before .before .before .before .before .before .before .before .before .before in
-    let known = att .before .before .before in
-    let start = known .before .before in
+    let start = att .before .before .before .before .before in
     let a = start .args in
     let r = att .attempt-in .result in
     let vs = ranValues (r .outcome) (r .vars .bound) (r .vars .kinds) (r .vars .bits) in

@@ -1,5 +1,5 @@
 -- `wakes::settle` meets its contract. Assumes nothing.
-use Prim.Native.Nat.{_+_, _-_, _*_, _≤_}
+use Prim.Native.Nat.{suc, _+_, _-_, _*_, _≤_}
 use native.Mathlib.Omega.{arith}
 use mathlib.Core.Path.{_≡_, refl, sym, _∙_}
 use lib.ListN.{length, length-drop}
@@ -19,6 +19,20 @@ Inv-loop state₀ out₀ own at₀ state out at = IsStored state × (length out 
 abbrev μ-loop : tie.MeasureT-loop
 μ-loop state₀ out₀ own at₀ state out at = length ((decode state) .waiting)
 
+-- a turn is taken on the rest of the buffer
+module _ (c : tie.After-wake-one Inv-loop μ-loop) where
+  abbrev at : tie.At-loop Inv-loop μ-loop
+  at = c .before .before .before
+
+  abbrev start : tie.Start Inv-loop μ-loop
+  start = at .before .before .before
+
+  own-room : start .args .own ≤ length (start .args .out .now)
+  own-room = omega (arith, at .loop .inv .1, at .loop .inv .2)
+
+  shorter : (c .wake-one .result ≡ 0 → ⊥) → suc (length ((decode (c .wake-one .last .0)) .waiting)) ≡ length ((decode (at .loop .state)) .waiting)
+  shorter = turn-shorter (decode (at .loop .state)) _ (c .wake-one .last .0) (c .wake-one .last .1 .0) (c .wake-one .result) (c .wake-one .ensures .0)
+
 loop-holds : tie.Need-loop-holds Inv-loop μ-loop
 loop-holds c = let start = c .before .before in (start .pre .0, refl, omega (arith, start .pre .1), start .pre .1, midway-start (decode (start .args .state .now)) (start .args .own) (start .args .out .now))
 
@@ -32,45 +46,41 @@ part-wake-one-end : tie.Need-part-wake-one-end Inv-loop μ-loop
 part-wake-one-end c = omega arith
 
 wake-one-requires : tie.Need-wake-one-requires Inv-loop μ-loop
-wake-one-requires c κs =
-    let l = c .before .before .loop in
-    (l .inv .0, rw (rest-lent (l .at) (l .out)) (rw length-drop (omega (arith, l .inv .3))))
+wake-one-requires c κs = let l = c .before .before .loop in (l .inv .0, rw (rest-lent, length-drop) (omega (arith, l .inv .3, l .inv .4 .number)))
 
 same-length : tie.Need-same-length Inv-loop μ-loop
-same-length c =
-    let start = c .before .before .before .before .before .before .before .before .before .before .before in
-    let l = c .before .before .before .before .before .before .before .before .loop in
-    let did = c .before .before .before .before .before .wake-one in
-    stored-length _ _ (did .ensures .0 .stored) ∙ sym (stored-length _ _ (start .pre .0))
+same-length c = let did = c .before .before .before .before .before in stored-length _ _ (did .wake-one .ensures .0 .stored) ∙ sym (stored-length _ _ (start did .pre .0))
 
 same-length-2 : tie.Need-same-length-2 Inv-loop μ-loop
 same-length-2 c = search needs
 
 returns : tie.Need-returns Inv-loop μ-loop
 returns c =
-    let start = c .before .before .before .before .before .before .before .before .before .before .before in
-    let l = c .before .before .before .before .before .before .before .before .loop in
-    let did = c .before .before .before .before .before .wake-one in
-    turn-end (decode (start .args .state .now)) (start .args .own) (l .at) (did .result) (start .args .out .now) (l .state) (l .out) (did .last .0) (did .last .1 .0) (omega (arith, l .inv .1, l .inv .2)) (l .inv .4) (did .ensures .0) (c .if1 .taken)
+    let did = c .before .before .before .before .before in
+    let s = start did .args in
+    let l = at did .loop in
+    let r = did .wake-one in
+    turn-end (decode (s .state .now)) (decode (l .state)) (s .own) (l .at) (s .out .now) (l .out) (l .inv .4) (r .last .0) (r .last .1 .0) (r .result) _ (r .ensures .0) (c .if1 .taken)
 
 add-at : tie.Need-add-at Inv-loop μ-loop
-add-at c = let l = c .before .before .before .before .before .before .before .before .loop in let did = c .before .before .before .before .before .wake-one in omega (arith, l .inv .3, did .ensures .1)
+add-at c = let did = c .before .before .before .before .before in omega (arith, at did .loop .inv .3, did .wake-one .ensures .1)
 
 loop-less : tie.Need-loop-less Inv-loop μ-loop
-loop-less c =
-    let start = c .before .before .before .before .before .before .before .before .before .before .before in
-    let l = c .before .before .before .before .before .before .before .before .loop in
-    let did = c .before .before .before .before .before .wake-one in
-    omega (arith, turn-shorter (decode (start .args .state .now)) (start .args .own) (l .at) (did .result) (start .args .out .now) (l .state) (l .out) (did .last .0) (did .last .1 .0) (omega (arith, l .inv .1, l .inv .2)) (l .inv .4) (did .ensures .0) (c .if1 .left))
+loop-less c = omega (arith, shorter (c .before .before .before .before .before) (c .if1 .left))
 
 loop-again : tie.Need-loop-again Inv-loop μ-loop
 loop-again c =
-    let start = c .before .before .before .before .before .before .before .before .before .before .before in
-    let l = c .before .before .before .before .before .before .before .before .loop in
-    let did = c .before .before .before .before .before .wake-one in
-    let same = same-len-mid (l .at) (length (l .out) - l .at) (l .out) (did .last .1 .0) (did .kept .1 .0) in
-    let less = turn-shorter (decode (start .args .state .now)) (start .args .own) (l .at) (did .result) (start .args .out .now) (l .state) (l .out) (did .last .0) (did .last .1 .0) (omega (arith, l .inv .1, l .inv .2)) (l .inv .4) (did .ensures .0) (c .if1 .left) in
-    (said _ _ (did .ensures .0 .stored), same ∙ l .inv .1, omega (arith, same, l .inv .2), omega (arith, same, less, l .inv .3, did .ensures .1), turn-more (decode (start .args .state .now)) (start .args .own) (l .at) (did .result) (start .args .out .now) (l .state) (l .out) (did .last .0) (did .last .1 .0) (omega (arith, l .inv .1, l .inv .2)) (l .inv .4) (did .ensures .0) (c .if1 .left))
+    let did = c .before .before .before .before .before in
+    let s = start did .args in
+    let l = at did .loop in
+    let r = did .wake-one in
+    let same = same-len-mid (l .at) (length (l .out) - l .at) (l .out) (r .last .1 .0) (r .kept .1 .0) in (
+      said _ _ (r .ensures .0 .stored),
+      same ∙ l .inv .1,
+      omega (arith, same, l .inv .2),
+      omega (arith, same, shorter did (c .if1 .left), l .inv .3, r .ensures .1),
+      turn-more (decode (s .state .now)) (decode (l .state)) (s .own) (l .at) (s .out .now) (l .out) (l .inv .4) (r .last .0) (r .last .1 .0) (r .result) (own-room did) (r .ensures .0) (c .if1 .left),
+    )
 
 pub settle-spec : {M : Type 1} → statement M
 settle-spec =

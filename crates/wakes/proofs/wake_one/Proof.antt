@@ -6,6 +6,14 @@ use Rattle.wakes.specs.Turns.{wakes-none, wakes-at, wakes-some}
 use Rattle.wakes.proofs.wake_one.Statement.{statement}
 use Rattle.wakes.proofs.wake_one.Tie as tie
 
+-- the oldest is sought, and the queue's length read
+module _ (c : tie.After-size) where
+  abbrev old : tie.After-oldest-ready
+  old = c .before .before
+
+  abbrev start : tie.Start
+  start = old .before .before .before .before
+
 oldest-ready-requires : tie.Need-oldest-ready-requires
 oldest-ready-requires c κs = search needs
 
@@ -20,18 +28,19 @@ same-length c = search needs
 
 returns : tie.Need-returns
 returns c =
-    let start = c .before .before .before .before .before .before .before in
-    let old = c .before .before .before in
-    let size = c .before in
-    (wakes-none (start .args .state .now) (old .oldest-ready .result) (size .size .result) (start .pre .0) (old .oldest-ready .ensures) (size .size .ensures .0) (start .args .out .now) (c .if1 .taken), omega arith)
+    let k = c .before in
+    let s = start k in
+    let o = old k .oldest-ready in
+    (wakes-none (s .args .state .now) (o .result) (k .size .result) (s .pre .0) (o .ensures) (k .size .ensures .0) (s .args .out .now) (c .if1 .taken), omega arith)
 
 wake-at-requires : tie.Need-wake-at-requires
 wake-at-requires c κs =
-    let start = c .before .before .before .before .before .before .before .before .before in
-    let old = c .before .before .before .before .before in
-    let size = c .before .before .before in
-    let k = wakes-at (start .args .state .now) (old .oldest-ready .result) (size .size .result) (start .pre .0) (old .oldest-ready .ensures) (size .size .ensures .0) (c .before .before .if1 .left) in
-    (start .pre .0, k .below, omega (arith, k .below, start .pre .1))
+    let other = c .before .before in
+    let k = other .before in
+    let s = start k in
+    let o = old k .oldest-ready in
+    let w = wakes-at (s .args .state .now) (o .result) (k .size .result) (s .pre .0) (o .ensures) (k .size .ensures .0) (other .if1 .left) in
+    (s .pre .0, w .below, omega (arith, w .below, s .pre .1))
 
 same-length-2 : tie.Need-same-length-2
 same-length-2 c = search needs
@@ -41,11 +50,13 @@ same-length-3 c = search needs
 
 returns-2 : tie.Need-returns-2
 returns-2 c =
-    let start = c .before .before .before .before .before .before .before .before .before .before .before .before .before .before in
-    let old = c .before .before .before .before .before .before .before .before .before .before in
-    let size = c .before .before .before .before .before .before .before .before in
-    let did = c .before .before .before .before .wake-at in
-    (wakes-some (start .args .state .now) (old .oldest-ready .result) (size .size .result) (start .pre .0) (old .oldest-ready .ensures) (size .size .ensures .0) (start .args .out .now) (did .last .0) (did .last .1 .1 .0) (did .result) (c .before .before .before .before .before .before .before .if1 .left) (did .ensures .0), did .ensures .1)
+    let did = c .before .before .before .before in
+    let other = did .before .before .before in
+    let k = other .before in
+    let s = start k in
+    let o = old k .oldest-ready in
+    let w = did .wake-at in
+    (wakes-some (s .args .state .now) (o .result) (k .size .result) (s .pre .0) (o .ensures) (k .size .ensures .0) (s .args .out .now) (w .last .0) (w .last .1 .1 .0) (w .result) (other .if1 .left) (w .ensures .0), w .ensures .1)
 
 pub wake-one-spec : {M : Type 1} → statement M
 wake-one-spec =

@@ -1,0 +1,10 @@
+pub mod Writer
+pub mod Room
+pub mod Puts
+pub mod Parts
+pub mod Tests
+pub mod Grown
+pub mod LastCount
+pub mod Answers
+pub mod WriterLaws
+pub mod WriterCases

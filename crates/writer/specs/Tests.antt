@@ -1,0 +1,106 @@
+-- The tests of an addition's parts, one after the other. Assumes nothing.
+use mathlib.Core.Path.{_≡_, refl, _∙_}
+use mathlib.Core.Bool.{Bool, true, false}
+use mathlib.Core.Logic.{_⊎_, inl, inr}
+use mathlib.Core.List.{List, [], _∷_}
+use Prim.Native.Nat.{ℕ, zero, suc, _+_, _≤_, _<_}
+use native.Mathlib.Numerals.{add-one}
+use native.Mathlib.Omega.{arith}
+use lib.ListN.{length, take, getD}
+use lib.Seq.{take-suc}
+use lib.Dec.{T, ltb, ltb→lt}
+use borrow.Author.Tests.{eq-eqb, ne-eqb, lt-ltb, le-ltb, le-leb, lt-leb}
+use Rattle.basis.specs.Logic.{and-l, and-r}
+use Rattle.basis.specs.Lists.{all}
+use Rattle.words.specs.ZeroLaws.{all-append, and-true, and-false}
+use Rattle.basis.specs.Sizes.{mostFields, spaceNumbers}
+use Rattle.model.specs.Statement as model
+use Rattle.model.specs.Statement.{spacesOf}
+use Rattle.model.specs.Legal.{isSpace}
+use Rattle.statements.specs.At.{which}
+use Rattle.statements.specs.declared.Field.{Field}
+use Rattle.statements.specs.declared.Operation.{Operation}
+use Rattle.statements.specs.Flat.{fieldsAre, operationOf, operationIs}
+use Rattle.writer.specs.Writer.{codes, trueCode, twoSpaces, forms, hasForm, isHanded}
+use Rattle.writer.specs.Parts.{hasBytes, spaces-one, spaces-two}
+
+-- ---- the forms of fields, one by one
+
+-- i fields have passed
+pub forms-none : (fields : List Field) → all hasForm (take 0 fields) ≡ true
+unfolding all
+forms-none fields = refl
+
+pub forms-more : (fields : List Field) (i : ℕ) (d : Field) → i < length fields → all hasForm (take i fields) ≡ true → getD fields i d .form < forms → all hasForm (take (i + 1) fields) ≡ true
+unfolding all hasForm
+forms-more fields i d h e f = rw (add-one i, take-suc fields i d h, all-append hasForm (take i fields) (getD fields i d ∷ []), e, lt-ltb (getD fields i d .form) forms f)
+
+-- one does not pass
+pub forms-miss : (fields : List Field) (i n : ℕ) (d : Field) → i < n → i < length fields → forms ≤ getD fields i d .form → false ≡ all hasForm (take n fields)
+unfolding all hasForm
+forms-miss [] i n d h k f = absurd (omega arith)
+forms-miss (x ∷ fields) i zero d h k f = absurd (omega arith)
+forms-miss (x ∷ fields) zero (suc n) d h k f = rw (le-ltb (x .form) forms f)
+forms-miss (x ∷ fields) (suc i) (suc n) d h k f = rw (← forms-miss fields i n d (omega arith) (omega arith) f, and-false (hasForm x))
+
+-- each has one of the six
+pub forms-at : (fields : List Field) (i n : ℕ) (d : Field) → T (all hasForm (take n fields)) → i < n → i < length fields → getD fields i d .form < forms
+unfolding all hasForm
+forms-at [] i n d t h k = absurd (omega arith)
+forms-at (x ∷ fields) i zero d t h k = absurd (omega arith)
+forms-at (x ∷ fields) zero (suc n) d t h k = ltb→lt (x .form) forms (and-l (hasForm x) (all hasForm (take n fields)) t)
+forms-at (x ∷ fields) (suc i) (suc n) d t h k = forms-at fields i n d (and-r (hasForm x) (all hasForm (take n fields)) t) (omega arith) (omega arith)
+
+-- ---- code, field count, forms
+
+module _ (o : Operation) where
+  pub handed-true : o .code ≡ trueCode → true ≡ isHanded o
+  unfolding isHanded
+  handed-true z = rw (eq-eqb (o .code) trueCode z)
+
+  pub handed-code : (o .code ≡ trueCode → ⊥) → codes ≤ o .code → false ≡ isHanded o
+  unfolding isHanded
+  handed-code n h = rw (ne-eqb (o .code) trueCode n, le-ltb (o .code) codes h)
+
+  pub handed-many : (o .code ≡ trueCode → ⊥) → o .code < codes → mostFields < o .count → false ≡ isHanded o
+  unfolding isHanded
+  handed-many n h m = rw (ne-eqb (o .code) trueCode n, lt-ltb (o .code) codes h, lt-leb (o .count) mostFields m)
+
+  pub handed-forms : (r : Bool) → (o .code ≡ trueCode → ⊥) → o .code < codes → o .count ≤ mostFields → r ≡ all hasForm (take (o .count) (o .fields)) → r ≡ isHanded o
+  unfolding isHanded
+  handed-forms r n h m e = e ∙ rw (ne-eqb (o .code) trueCode n, lt-ltb (o .code) codes h, le-leb (o .count) mostFields m)
+
+  -- ---- spaces
+
+  abbrev partFields : List model.Field
+  partFields = fieldsAre (take (o .count) (o .fields))
+
+  pub spaces-true : o .code ≡ trueCode → true ≡ all isSpace (spacesOf (operationIs o))
+  unfolding operationIs operationOf spacesOf all
+  spaces-true z = rw z
+
+  pub spaces-from : (o .code ≡ trueCode → ⊥) → spaceNumbers ≤ o .from → false ≡ all isSpace (spacesOf (operationIs o))
+  unfolding operationIs all isSpace
+  spaces-from n h = go (which twoSpaces (o .code))
+    where
+      go : (twoSpaces ≤ o .code) ⊎ (o .code < twoSpaces) → false ≡ all isSpace (spacesOf (operationOf (o .code) (o .from) (o .to) partFields))
+      go (inl l) = rw (spaces-two (o .code) (o .from) (o .to) partFields l, le-ltb (o .from) spaceNumbers h)
+      go (inr l) = rw (spaces-one (o .code) (o .from) (o .to) partFields (omega (arith, n)) l, le-ltb (o .from) spaceNumbers h)
+
+  pub spaces-single : (o .code ≡ trueCode → ⊥) → o .from < spaceNumbers → o .code < twoSpaces → true ≡ all isSpace (spacesOf (operationIs o))
+  unfolding operationIs all isSpace
+  spaces-single n h l = rw (spaces-one (o .code) (o .from) (o .to) partFields (omega (arith, n)) l, lt-ltb (o .from) spaceNumbers h)
+
+  pub spaces-both : o .from < spaceNumbers → twoSpaces ≤ o .code → ltb (o .to) spaceNumbers ≡ all isSpace (spacesOf (operationIs o))
+  unfolding operationIs all isSpace
+  spaces-both h l = rw (spaces-two (o .code) (o .from) (o .to) partFields l, lt-ltb (o .from) spaceNumbers h, and-true (ltb (o .to) spaceNumbers))
+
+  -- ---- both
+
+  pub no-bytes : isHanded o ≡ false → false ≡ hasBytes o
+  unfolding hasBytes
+  no-bytes e = rw e
+
+  pub some-bytes : (r : Bool) → isHanded o ≡ true → r ≡ all isSpace (spacesOf (operationIs o)) → r ≡ hasBytes o
+  unfolding hasBytes
+  some-bytes r e f = f ∙ rw e
