@@ -33,6 +33,7 @@ tupleCount b = numberAt tupleCountAt tupleCountWidth b
 abbrev pub waitingCount : List ℕ → ℕ
 waitingCount b = getD b waitingCountAt 0
 
+-- "every limit", of the counts
 unfoldable pub countsOk : List ℕ → Bool
 countsOk b =
     leb (getD b monitorsAt 0) mostMonitors
@@ -42,6 +43,7 @@ countsOk b =
     && leb 1 (spaceCount b)
     && leb (spaceCount b) mostSpaces
 
+-- the mark and the counts
 unfoldable pub headerOk : List ℕ → Bool
 headerOk b = sameBytes stateMark (take markWidth b) && countsOk b
 
@@ -60,6 +62,7 @@ tuplesLeft b n = zerosAt b (tuplesAt + n * tupleSize) ((mostTuples - n) * tupleS
 abbrev pub waitingLeft : List ℕ → ℕ → Bool
 waitingLeft b n = zerosAt b (waitingAt + n * waitingSize) ((mostWaiting - n) * waitingSize)
 
+-- "All unused bytes are zero", of the header and past the entries
 unfoldable pub unusedOk : List ℕ → Bool
 unusedOk b = headerLeft b && spacesLeft b (spaceCount b) && tuplesLeft b (tupleCount b) && waitingLeft b (waitingCount b)
 
@@ -75,6 +78,7 @@ spaceOk b i =
     ltb (getD b (spacesAt + i * spaceSize) 0) (getD b (spacesAt + i * spaceSize + spaceSize) 0)
     && accessOk b (spacesAt + i * spaceSize + spaceSize + 1)
 
+-- "Spaces rise by number", "space 0 is open and shared, spaces are below the next number"
 unfoldable pub spacesOk : List ℕ → Bool
 spacesOk b =
     eqb (numberAt spacesAt spaceSize b) 0
@@ -107,12 +111,13 @@ markOf b every p (suc n) k = cond (eqb (getD b (spacesAt + n * spaceSize) 0) k) 
 unfoldable pub tupleOpen : (table : List ℕ) → List ℕ → ℕ → Bool
 tupleOpen table p i = isEntry (entryAt p i) && ltb 0 (getD table (getD p (i * tupleSize) 0) 0)
 
+-- each of the first n tuples
 unfoldable pub tuplesOk : (table : List ℕ) → List ℕ → (n : ℕ) → Bool
 tuplesOk table p n = below (tupleOpen table p) n
 
 -- ---- the waiting statements
 
--- where the entry at index i begins, and its body
+-- where the entry at index i begins, its position, the length of its body, and the body
 abbrev pub entryFrom : ℕ → ℕ
 entryFrom i = waitingAt + i * waitingSize
 
@@ -161,9 +166,11 @@ senderOk b i = getD (bits hosts (numberAt maskAt maskWidth b)) (hostOf b i) fals
 unfoldable pub bodyAllowed : List ℕ → ℕ → Bool
 bodyAllowed b i = spacesOpen b (processOf b i) (statementOf (bodyOf b i)) && canWait (statementOf (bodyOf b i))
 
+-- all that a waiting statement is asked, but "no guard that holds"
 unfoldable pub waitOk : List ℕ → ℕ → Bool
 waitOk b i = entryOk b i && (senderOk b i && bodyAllowed b i)
 
+-- "waiting positions are 1 to the last", and each waiting statement
 unfoldable pub waitingOk : List ℕ → Bool
 waitingOk b =
     leb (positionBefore b (waitingCount b)) (numberAt lastAt positionWidth b)

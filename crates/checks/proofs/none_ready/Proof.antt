@@ -30,7 +30,7 @@ loop-holds : tie.Need-loop-holds Inv-loop μ-loop
 loop-holds c = (omega arith, below-none _)
 
 is-ready-requires : tie.Need-is-ready-requires Inv-loop μ-loop
-is-ready-requires c κs = (c .before .before .before .before .before .pre .0, omega arith, c .before .before .before .before .before .pre .2, c .before .before .before .before .before .pre .3 _ (omega arith))
+is-ready-requires c κs = (c .before .before .before .before .before .pre .0, omega arith, omega arith, c .before .before .before .before .before .pre .3 _ (omega arith))
 
 returns : tie.Need-returns Inv-loop μ-loop
 returns c = some-ready _ _ _ _ (omega arith) (c .before .is-ready .ensures) (c .if1 .taken)
