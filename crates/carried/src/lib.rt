@@ -1,0 +1,84 @@
+// The writer: it holds a lent buffer and its fill, and carries them along from addition to addition.
+ghost use mathlib.Core.Path.{_≡_};
+ghost use Rattle.writer.specs.Writer.{writtenIs, beginOn, addOperation, addBranch};
+ghost use Rattle.carried.specs.Held.{begunOn, operationOn, branchOn, shown, onward};
+use statements::Operation;
+use writer::Added;
+use writer::begin_at;
+use writer::branch_at;
+use writer::operation_at;
+
+// The lent buffer, the count of its filled bytes, and the answer of the last addition: 0 done, 6 or 2 refused.
+pub struct Writer<'a> {
+    pub buffer: &'a mut [u8],
+    pub fill: usize,
+    pub answer: u8,
+}
+
+// The writer is begun: host, process and first guard. Refused, no byte is filled, and each addition is refused 6.
+pub fn begin<'a>(buffer: &'a mut [u8], host: u8, process: u16, guard: Operation) -> Writer<'a>
+    ensures { λ r. ⌜ r ≡ begunOn (buffer .entry) host process guard ⌝ }
+{
+    let added = begin_at(&mut *buffer, host, process, guard);
+    Writer {
+        buffer: buffer,
+        fill: added.fill,
+        answer: added.answer,
+    }
+}
+
+// One operation more, in the last branch.
+pub fn operation<'a>(w: Writer<'a>, operation: Operation) -> Writer<'a>
+    ensures { λ r. ⌜ r ≡ operationOn (w .entry) operation ⌝ }
+{
+    let fill = w.fill;
+    let added = operation_at(&mut *w.buffer, fill, operation);
+    Writer {
+        buffer: w.buffer,
+        fill: added.fill,
+        answer: added.answer,
+    }
+}
+
+// One branch more, with this guard and no operation yet.
+pub fn branch<'a>(w: Writer<'a>, guard: Operation) -> Writer<'a>
+    ensures { λ r. ⌜ r ≡ branchOn (w .entry) guard ⌝ }
+{
+    let fill = w.fill;
+    let added = branch_at(&mut *w.buffer, fill, guard);
+    Writer {
+        buffer: w.buffer,
+        fill: added.fill,
+        answer: added.answer,
+    }
+}
+
+// The answer of the last addition, and the count of filled bytes.
+pub fn told<'a>(w: Writer<'a>) -> Added
+    ensures { λ r. ⌜ writtenIs r (now (w .exit .0)) ≡ shown (w .entry) ⌝ }
+{
+    Added {
+        answer: w.answer,
+        fill: w.fill,
+    }
+}
+
+// A body of two branches of one operation each; the answer is that of the last addition. Its parameters are plain, so that
+// whoever calls it needs no proof by hand.
+pub fn choice(
+    buffer: &mut [u8],
+    host: u8,
+    process: u16,
+    guard1: Operation,
+    operation1: Operation,
+    guard2: Operation,
+    operation2: Operation,
+) -> Added
+    ensures { λ r. ⌜ writtenIs r (now (buffer .exit)) ≡ onward addOperation (onward addBranch (onward addOperation (beginOn (now (buffer .entry)) host process guard1) operation1) guard2) operation2 ⌝ }
+{
+    let w = begin(buffer, host, process, guard1);
+    let w = operation(w, operation1);
+    let w = branch(w, guard2);
+    let w = operation(w, operation2);
+    told(w)
+}
