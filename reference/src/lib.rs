@@ -4,6 +4,7 @@
 pub mod call;
 pub mod generate;
 pub mod layout;
+pub mod lines;
 pub mod run;
 pub mod statement;
 pub mod value;

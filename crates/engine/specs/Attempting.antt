@@ -1,16 +1,18 @@
 -- Rule 5: a branch as a whole, guard and body, and a statement with it. Assumes nothing.
 use mathlib.Core.Path.{_≡_, refl, sym, ap, subst, _∙_}
-use Prim.Native.Nat.{ℕ, zero, suc, _+_, _≤_, _<_}
+use Prim.Native.Nat.{ℕ, zero, suc, _+_, _-_, _*_, _≤_, _<_}
 use native.Mathlib.Omega.{arith}
 use native.Mathlib.Numerals.{add-one}
 use mathlib.Core.Bool.{Bool, true, false, _&&_}
 use mathlib.Core.Option.{Option, none, some, Option·map}
-use mathlib.Core.List.{List, [], _∷_, _++_, append-nil}
-use lib.ListN.{length, drop, getD, drop-of-length-le}
+use mathlib.Core.List.{List, [], _∷_, _++_, flatMap}
+use lib.ListN.{length, take, drop, getD, take-append-drop}
 use lib.Dec.{T}
 use Rattle.basis.specs.Choice.{maybe}
 use Rattle.basis.specs.Logic.{and-l, and-r}
-use Rattle.basis.specs.Lists.{all, Found}
+use Rattle.basis.specs.Lists.{all, Found, zeros, pad}
+use Rattle.basis.specs.PadLaws.{pad-length, rows-length}
+use Rattle.basis.specs.Sizes.{tupleSize, tuplesSize, mostTuples}
 use Rattle.basis.specs.ListLaws.{Each}
 use Rattle.model.specs.Statement as Model
 use Rattle.model.specs.Statement.{Branch, operations, Statement}
@@ -20,11 +22,13 @@ use Rattle.model.specs.Matching.{Tuple, Bindings, unbound}
 use Rattle.model.specs.Execution.{Result, done, failed, perform, andThen, performAll, chosen, Executed, execute, attempt, tuplesAfter}
 use Rattle.model.specs.BoundKinds.{Agree, agree-unbound}
 use Rattle.words.specs.Over.{over}
-use Rattle.words.specs.OverLaws.{over-parts}
+use Rattle.words.specs.OverLaws.{over-split}
+use Rattle.layout.specs.States.{tupleBytes}
+use Rattle.layout.specs.PlaceLaws.{area-unused}
 use Rattle.statements.specs.declared.OperationRead.{OperationRead}
 use Rattle.statements.specs.Flat.{operationIs, Reads, operationAt}
 use Rattle.tuples.specs.Section as Section
-use Rattle.tuples.specs.Section.{tuplesOf, Holds}
+use Rattle.tuples.specs.Section.{tuplesArea, tuplesOf, Holds}
 use Rattle.engine.specs.declared.Vars.{Vars}
 use Rattle.engine.specs.Variables.{bindingsOf}
 use Rattle.engine.specs.Performing.{resultIs, Leaves, leaves-failed}
@@ -152,8 +156,48 @@ module _ (b : List ℕ) (st : Statement) (p : List ℕ) (n : ℕ) (s : Section.S
 
 -- ---- the copy
 
--- all of some bytes over as many others
-pub over-all : (d s : List ℕ) → length d ≡ length s → over d 0 s (length s) ≡ s
-over-all d s e =
-    let past : length d ≤ 0 + length s = omega arith in
-    over-parts d 0 s (length s) refl ∙ rw (drop-of-length-le d past) (append-nil s)
+drop-zeros : (j m : ℕ) → drop j (zeros m) ≡ zeros (m - j)
+unfolding zeros
+drop-zeros zero m = let z : m ≡ m - 0 = omega arith in ap zeros z
+drop-zeros (suc j) zero = let z : 0 ≡ 0 - suc j = omega arith in ap zeros z
+drop-zeros (suc j) (suc m) = let z : m - j ≡ suc m - suc j = omega arith in drop-zeros j m ∙ ap zeros z
+
+-- bytes over the front of others that are alike from there on
+over-alike : (d s : List ℕ) (k : ℕ) → drop k d ≡ drop k s → over d 0 s k ≡ s
+over-alike d s k e =
+    let z : 0 + k ≡ k = omega arith in
+    over-split d 0 s k ∙ ap (λ (i : ℕ). take k s ++ drop i d) z ∙ ap (λ (l : List ℕ). take k s ++ l) e ∙ take-append-drop k s
+
+drop-past : (xs ys : List ℕ) (j : ℕ) → drop (length xs + j) (xs ++ ys) ≡ drop j ys
+drop-past [] ys j = let z : 0 + j ≡ j = omega arith in ap (λ (i : ℕ). drop i ys) z
+drop-past (x ∷ xs) ys j =
+    let z : length (x ∷ xs) + j ≡ suc (length xs + j) = omega arith in
+    ap (λ (i : ℕ). drop i ((x ∷ xs) ++ ys)) z ∙ drop-past xs ys j
+
+-- past its tuples a section is zero
+section-rest : (p : List ℕ) (n : ℕ) (ts : List Tuple) → Holds p n ts → (k : ℕ) → n * tupleSize ≤ k → drop k p ≡ zeros (tuplesSize - k)
+unfolding tuplesArea
+section-rest p n ts h k l =
+    let rows : List ℕ = flatMap (λ t. pad tupleSize (tupleBytes t)) ts in
+    let long : length rows ≡ length ts * tupleSize = rows-length tupleSize (λ t. pad tupleSize (tupleBytes t)) (λ t. pad-length tupleSize (tupleBytes t)) ts in
+    let unused : ℕ = tuplesSize - length ts * tupleSize in
+    let parts : p ≡ rows ++ zeros unused = h .bytes ∙ area-unused tuplesSize tupleSize tupleBytes ts (omega (arith, h .count, h .few)) in
+    let j : ℕ = k - length rows in
+    let count : n ≡ length ts = h .count in
+    let sum : k ≡ length rows + j = omega arith in
+    let less : unused - j ≡ tuplesSize - k = omega arith in
+    ap (drop k) parts
+    ∙ ap (λ (i : ℕ). drop i (rows ++ zeros unused)) sum
+    ∙ drop-past rows (zeros unused) j
+    ∙ drop-zeros j unused
+    ∙ ap zeros less
+
+-- a section's tuples over zeros
+pub copied-out : (p : List ℕ) (n : ℕ) → Section.Section p n → over (zeros tuplesSize) 0 p (n * tupleSize) ≡ p
+copied-out p n h = over-alike (zeros tuplesSize) p (n * tupleSize) (drop-zeros (n * tupleSize) tuplesSize ∙ sym (section-rest p n (tuplesOf p n) h (n * tupleSize) (omega arith)))
+
+-- as many tuples as either section has, over the other's
+pub copied-in : (p q : List ℕ) (n m k : ℕ) → Section.Section p n → Section.Section q m → n ≤ k → m ≤ k → over p 0 q (k * tupleSize) ≡ q
+copied-in p q n m k h g l r =
+    over-alike p q (k * tupleSize)
+    (section-rest p n (tuplesOf p n) h (k * tupleSize) (omega arith) ∙ sym (section-rest q m (tuplesOf q m) g (k * tupleSize) (omega arith)))

@@ -501,6 +501,13 @@ fn run_branch(tuples: &mut [u8], n: usize, body: &[u8], at: usize) -> Done
     run_operations(tuples, m, body, end + 1, words::size(body[end]), w)
 }
 
+// The larger of two numbers.
+fn larger(a: usize, b: usize) -> usize
+    ensures { λ r. ⌜ (a ≤ r) × (b ≤ r) × (a ≤ mostTuples → b ≤ mostTuples → r ≤ mostTuples) ⌝ }
+{
+    if a < b { b } else { a }
+}
+
 // What a statement did: the branch that ran, counted from 1, its outcome, and the tuples' number and the variables after it; branch 0: no guard holds.
 pub struct Ran {
     pub branch: u8,
@@ -524,7 +531,7 @@ pub fn attempt(tuples: &mut [u8], n: usize, body: &[u8]) -> Ran
         };
     }
     let mut work = [0u8; TUPLES];
-    words::copy_at(&mut work, 0, tuples);
+    words::copy_part(&mut work, 0, tuples, 0, n * words::TUPLE);
     let d = run_branch(&mut work, n, body, choice.at);
     let vars = d.vars;
     if d.outcome != 0 {
@@ -535,11 +542,12 @@ pub fn attempt(tuples: &mut [u8], n: usize, body: &[u8]) -> Ran
             vars,
         };
     }
-    words::copy_at(tuples, 0, &work);
+    let m = d.n;
+    words::copy_part(tuples, 0, &work, 0, larger(n, m) * words::TUPLE);
     Ran {
         branch: choice.branch,
         outcome: 0,
-        n: d.n,
+        n: m,
         vars,
     }
 }

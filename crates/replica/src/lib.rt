@@ -1,6 +1,8 @@
-// The functions for C: a replica of the tuple space in a buffer that the caller lends. `include/replica.h` says them in words.
+// The functions for C: a replica of the tuple space in a buffer that the caller lends, and the writer of statements. `include/replica.h` says them in words.
 ghost use mathlib.Core.Path.{_≡_};
 ghost use Rattle.calls.specs.Calls.{lent, answer, freshAnswer, takeCall, freshCall};
+ghost use Rattle.writer.specs.Writer.{writtenIs, beginOn, addOperation, addBranch};
+use statements::Operation;
 
 // The fresh-state call: 0, or 1 "for length".
 #[no_mangle]
@@ -16,4 +18,44 @@ pub extern "C" fn replica_take(state: &mut [u8], record: &[u8], reply: &mut [u8]
     ensures { λ r. ⌜ answer r (now (state .exit)) (now (reply .exit)) ≡ takeCall (lent (now (state .entry)) (now («record» .entry)) (now (reply .entry))) ⌝ }
 {
     entries::take(state, record, reply)
+}
+
+// ---- the writer: 0, 6 or 2
+
+// A body is begun: "host, process and first guard".
+#[no_mangle]
+pub extern "C" fn replica_begin(
+    body: &mut [u8],
+    fill: &mut usize,
+    host: u8,
+    process: u16,
+    guard: Operation,
+) -> u64
+    ensures { λ r. ⌜ writtenIs (record { answer = r; fill = now (fill .exit) }) (now (body .exit)) ≡ beginOn (now (body .entry)) host process guard ⌝ }
+{
+    let added = writer::begin_at(body, host, process, guard);
+    *fill = added.fill;
+    added.answer as u64
+}
+
+// "one operation .. more", at the end of the last branch.
+#[no_mangle]
+pub extern "C" fn replica_operation(body: &mut [u8], fill: &mut usize, operation: Operation) -> u64
+    ensures { λ r. ⌜ writtenIs (record { answer = r; fill = now (fill .exit) }) (now (body .exit)) ≡ addOperation (now (body .entry)) (now (fill .entry)) operation ⌝ }
+{
+    let filled = *fill;
+    let added = writer::operation_at(body, filled, operation);
+    *fill = added.fill;
+    added.answer as u64
+}
+
+// "or branch more": its guard, and no operation yet.
+#[no_mangle]
+pub extern "C" fn replica_branch(body: &mut [u8], fill: &mut usize, guard: Operation) -> u64
+    ensures { λ r. ⌜ writtenIs (record { answer = r; fill = now (fill .exit) }) (now (body .exit)) ≡ addBranch (now (body .entry)) (now (fill .entry)) guard ⌝ }
+{
+    let filled = *fill;
+    let added = writer::branch_at(body, filled, guard);
+    *fill = added.fill;
+    added.answer as u64
 }

@@ -41,6 +41,7 @@ const COUNT_AT: usize = 3;
 const BRANCHES_AT: usize = 4;
 
 // A field: its form, and the kind, variable and four bytes of a value that the form has; parts that it lacks are 0.
+#[repr(C)]
 pub struct Field {
     pub form: u8,
     pub kind: u8,
@@ -61,6 +62,7 @@ pub struct FieldsRead {
 }
 
 // An operation: its code, spaces and first `count` fields; parts that it lacks are 0.
+#[repr(C)]
 pub struct Operation {
     pub code: u8,
     pub from: u16,

@@ -9,14 +9,14 @@ use lib.ListN.{length, take, drop, set, getD, length-set}
 use lib.Seq.{length-take-le, take-at, getD-take}
 use lib.Dec.{T, leb, leb→le, lt→ltb}
 use lib.Pow.{areBytes}
-use borrow.Author.Tests.{le-leb, lt-leb}
+use borrow.Author.Tests.{le-leb, lt-leb, leb-true}
 use Rattle.basis.specs.Choice.{maybe, isSome, provided}
 use Rattle.basis.specs.Logic.{and-l, and-r, is-true, true-is}
 use Rattle.basis.specs.Lists.{all}
 use Rattle.basis.specs.ListLaws.{all-of}
 use Rattle.basis.specs.Numbers.{bigEndian}
 use Rattle.basis.specs.NumberLaws.{bytes-take, bigEndian-length}
-use Rattle.basis.specs.Sizes.{processWidth, mostBody, mostBranches, spaceNumbers}
+use Rattle.basis.specs.Sizes.{processWidth, mostBody, mostBranches, spaceNumbers, processes}
 use Rattle.words.specs.Over.{over}
 use Rattle.words.specs.OverLaws.{over-front, over-split, over-length}
 use Rattle.model.specs.Statement as model
@@ -38,23 +38,55 @@ use Rattle.writer.specs.LastCount.{LastCount}
 
 -- ---- a composed body
 
+-- the number that a composed body is refused by; 0: it is not
+unfoldable pub refusalOf : (legal : Bool) (size most : ℕ) → ℕ
+refusalOf legal size most = cond legal (cond (leb size most) 0 2) 6
+
+pub refusal-legal : (legal : Bool) (size most : ℕ) → legal ≡ false → 6 ≡ refusalOf legal size most
+unfolding refusalOf
+refusal-legal legal size most e = rw e
+
+pub refusal-room : (legal : Bool) (size most : ℕ) → legal ≡ true → most < size → 2 ≡ refusalOf legal size most
+unfolding refusalOf
+refusal-room legal size most e h = rw (e, lt-leb size most h)
+
+pub refusal-none : (legal : Bool) (size most : ℕ) → legal ≡ true → size ≤ most → 0 ≡ refusalOf legal size most
+unfolding refusalOf
+refusal-none legal size most e h = rw (e, le-leb size most h)
+
 -- what becomes of a buffer by a composed body
 unfoldable pub settled : (buffer : List ℕ) (fill : ℕ) (body : List ℕ) → Written
 settled buffer fill body = cond (legalBody body) (cond (leb (length body) (length buffer)) (filledWith buffer body) (refusedBy 2 buffer fill)) (refusedBy 6 buffer fill)
 
-module _ (buffer : List ℕ) (fill : ℕ) (body : List ℕ) where
-  pub settled-no : legalBody body ≡ false → refusedBy 6 buffer fill ≡ settled buffer fill body
-  unfolding settled
-  settled-no e = rw e
+-- there is room for a body that is not refused
+pub settled-room : (legal : Bool) (size most r : ℕ) → r ≡ refusalOf legal size most → r ≡ 0 → size ≤ most
+unfolding refusalOf
+settled-room legal size most r e z = go legal (leb size most) refl (sym e ∙ z)
+  where
+    go : (l s : Bool) → leb size most ≡ s → _≡_ {A = ℕ} (cond l (cond s 0 2) 6) 0 → size ≤ most
+    go true true q h = leb-true size most q
+    go true false q h = absurd (omega arith)
+    go false s q h = absurd (omega arith)
 
-  pub settled-short : legalBody body ≡ true → length buffer < length body → refusedBy 2 buffer fill ≡ settled buffer fill body
-  unfolding settled
-  settled-short e h = rw (e, lt-leb (length body) (length buffer) h)
+module _ (buffer : List ℕ) (fill : ℕ) (body : List ℕ) (r : ℕ) (e : r ≡ refusalOf (legalBody body) (length body) (length buffer)) where
+  pub settled-refused : (r ≡ 0 → ⊥) → refusedBy r buffer fill ≡ settled buffer fill body
+  unfolding settled refusalOf
+  settled-refused n = go (legalBody body) (leb (length body) (length buffer)) e
+    where
+      go : (l s : Bool) → r ≡ cond l (cond s 0 2) 6 → refusedBy r buffer fill ≡ cond l (cond s (filledWith buffer body) (refusedBy 2 buffer fill)) (refusedBy 6 buffer fill)
+      go true true e = absurd (n e)
+      go true false e = ap (λ (k : ℕ). refusedBy k buffer fill) e
+      go false s e = ap (λ (k : ℕ). refusedBy k buffer fill) e
 
-  pub settled-done : (after : List ℕ) → legalBody body ≡ true → length body ≤ length buffer → after ≡ over buffer 0 body (length body)
-      → writtenIs (record { answer = 0; fill = length body }) after ≡ settled buffer fill body
-  unfolding settled writtenIs filledWith
-  settled-done after e h s = rw (e, le-leb (length body) (length buffer) h, s, over-front buffer body (length body) refl)
+  pub settled-done : (after : List ℕ) → r ≡ 0 → after ≡ over buffer 0 body (length body) → writtenIs (record { answer = 0; fill = length body }) after ≡ settled buffer fill body
+  unfolding settled refusalOf writtenIs
+  settled-done after z s = (ap (λ (l : List ℕ). writtenIs (record { answer = 0; fill = length body }) l) (s ∙ over-front buffer body (length body) refl)) ∙ go (legalBody body) (leb (length body) (length buffer)) (sym e ∙ z)
+    where
+      go : (l s : Bool) → _≡_ {A = ℕ} (cond l (cond s 0 2) 6) 0
+          → record { answer = 0; fill = length body; bytes = body ++ drop (length body) buffer } ≡ cond l (cond s (filledWith buffer body) (refusedBy 2 buffer fill)) (refusedBy 6 buffer fill)
+      go true true h = unfold filledWith in refl
+      go true false h = absurd (omega arith)
+      go false s h = absurd (omega arith)
 
 -- a refusal leaves the buffer
 pub refused-is : (n : ℕ) (buffer : List ℕ) (fill : ℕ) → writtenIs (record { answer = n; fill = fill }) buffer ≡ refusedBy n buffer fill
@@ -280,7 +312,7 @@ module _ (t e buffer : List ℕ) (fill : ℕ) (o : Operation) (room-is : length 
   )
 
 -- host, process, one branch with a guard and no operation
-pub composed-begun : (t t₂ f : List ℕ) (h p : ℕ) (g : Operation) (end : ℕ) → length t ≡ room → h < 256 → p < 65536 → t₂ ≡ over (set t 0 h) processAt (bigEndian processWidth p) processWidth
+pub composed-begun : (t t₂ f : List ℕ) (h p : ℕ) (g : Operation) (end : ℕ) → length t ≡ room → h < 256 → p < processes → t₂ ≡ over (set t 0 h) processAt (bigEndian processWidth p) processWidth
     → PutOperation g (set t₂ branchCountAt 1) branchesAt f end → (end + 1 ≤ room) × Begun h p g (take (end + 1) (set f end 0))
 composed-begun t t₂ f h p g end l a b s q =
     let two : List ℕ = bigEndian processWidth p in

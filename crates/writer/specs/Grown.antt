@@ -11,7 +11,7 @@ use Rattle.basis.specs.Logic.{and-l, and-r}
 use Rattle.basis.specs.ListLaws.{Each, each-nil, each-cons, each-append}
 use Rattle.basis.specs.Numbers.{bigEndian}
 use Rattle.basis.specs.NumberLaws.{bigEndian-length}
-use Rattle.basis.specs.Sizes.{hostWidth, processWidth}
+use Rattle.basis.specs.Sizes.{hostWidth, processWidth, processes}
 use Rattle.model.specs.Statement.{Operation, Branch, operations, Statement}
 use Rattle.model.specs.Legal.{legalStatement}
 use Rattle.model.specs.Writing.{countedBytes, operationBytes, branchBytes, statementBytes}
@@ -196,7 +196,7 @@ grows-branch = record {
   has = λ st g t. has-guard g (legal-fits (withBranch st g) t .branches _ (Memᴰ·append-right (st .branches) (List·Memᴰ·head refl)));
 }
 
-pub fits-begun : (h p : ℕ) (g : Operation) → h < 256 → p < 65536 → FitsOperation g → FitsStatement (begun h p g)
+pub fits-begun : (h p : ℕ) (g : Operation) → h < 256 → p < processes → FitsOperation g → FitsStatement (begun h p g)
 unfolding begun
 fits-begun h p g a b f = record { host = a; process = b; branches = each-cons FitsBranch _ [] (fits-guard g f) (each-nil _) }
 

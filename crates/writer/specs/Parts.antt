@@ -3,7 +3,7 @@ use mathlib.Core.Path.{_≡_, refl, sym, ap, _∙_}
 use mathlib.Core.Bool.{Bool, true, _&&_}
 use mathlib.Core.Logic.{_⊎_, inl, inr}
 use mathlib.Core.List.{List, [], _∷_, _++_, map-append, flatMap, append-assoc, append-nil}
-use Prim.Native.Nat.{ℕ, zero, suc, _+_, _*_, _%_, _≤_, _<_}
+use Prim.Native.Nat.{ℕ, zero, suc, _+_, _*_, _%_, _^_, _≤_, _<_}
 use native.Mathlib.Numerals.{add-one}
 use native.Mathlib.Omega.{arith}
 use lib.ListN.{length, take, set, getD, length-append, length-map}
@@ -73,8 +73,8 @@ field-most (sum x v) = omega (arith, value-length (v .kind) (v .bits))
 field-most (difference x v) = omega (arith, value-length (v .kind) (v .bits))
 field-most (anonymous k) = omega arith
 
--- a field of 32 bits has room, whatever its form
-field-fits : (form k x n : ℕ) → n < 4294967296 → FitsField (fieldOf form k x n)
+-- a field whose bits are four bytes has room, whatever its form
+field-fits : (form k x n : ℕ) → n < 256 ^ bitsWidth → FitsField (fieldOf form k x n)
 unfolding fieldOf
 field-fits zero k x n h = h
 field-fits (suc zero) k x n h = tt
@@ -93,7 +93,7 @@ sum-bytes (suc (suc (suc zero))) k x n l h = refl
 sum-bytes (suc (suc (suc (suc zero)))) k x n l h = refl
 sum-bytes (suc (suc (suc (suc (suc form))))) k x n l h = absurd (omega arith)
 
-module _ (f : Field) (d : List ℕ) (at : ℕ) (h : at + mostFieldSize ≤ length d) (small : f .bits < 4294967296) where
+module _ (f : Field) (d : List ℕ) (at : ℕ) (h : at + mostFieldSize ≤ length d) (small : f .bits < 256 ^ bitsWidth) where
   abbrev fieldValue : List ℕ
   fieldValue = valueBytes (value (f .kind) (f .bits))
 

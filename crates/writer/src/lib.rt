@@ -17,7 +17,7 @@ ghost use Rattle.writer.specs.Room.{mostFieldSize, fieldsRoom, mostOpera
 ghost use Rattle.writer.specs.Puts.{Puts};
 ghost use Rattle.writer.specs.Parts.{hasBytes, PutField, PutFields, PutCounted, PutOperation};
 ghost use Rattle.writer.specs.LastCount.{LastCount};
-ghost use Rattle.writer.specs.Answers.{settled, Begun, Composed};
+ghost use Rattle.writer.specs.Answers.{refusalOf, settled, Begun, Composed};
 use statements::Field;
 use statements::Operation;
 use statements::body_ok;
@@ -56,6 +56,11 @@ const FIELD: usize = 2 + VALUE;
 const OPERATION: usize = 4 + MOST_FIELDS * FIELD;
 
 const ROOM: usize = MOST_BODY + OPERATION + 1;
+
+// The numbers of "body malformed" and of a short buffer.
+const MALFORMED: u8 = 6;
+
+const SHORT: u8 = 2;
 
 // What an addition answers, 0 done, 6 or 2 refused, and the count of filled bytes after it.
 pub struct Added {
@@ -273,17 +278,29 @@ fn compose_branch(t: &mut [u8], buffer: &[u8], fill: usize, guard: Operation) ->
     end + 1
 }
 
-// "One that would not leave a legal body is refused 6, then a short buffer 2, bytes unchanged".
+// "One that would not leave a legal body is refused 6, then a short buffer 2": the number; 0: neither.
+fn refusal(room: usize, body: &[u8]) -> u8
+    ensures { λ r. ⌜ r ≡ refusalOf (legalBody (now (body .entry))) (length (now (body .entry))) room ⌝ }
+{
+    let legal = body_ok(body);
+    if !legal {
+        return MALFORMED;
+    }
+    if room < body.len() {
+        return SHORT;
+    }
+    0
+}
+
+// A composed body goes over the buffer's front, unless it is refused.
 fn settle(buffer: &mut [u8], fill: usize, body: &[u8]) -> Added
     ensures { λ r. ⌜ writtenIs r (now (buffer .exit)) ≡ settled (now (buffer .entry)) fill (now (body .entry)) ⌝ }
 {
-    if !body_ok(body) {
-        return Added { answer: 6, fill };
+    let answer = refusal(buffer.len(), body);
+    if answer != 0 {
+        return Added { answer, fill };
     }
     let n = body.len();
-    if buffer.len() < n {
-        return Added { answer: 2, fill };
-    }
     copy_at(buffer, 0, body);
     Added { answer: 0, fill: n }
 }
@@ -295,7 +312,10 @@ pub fn begin_at(buffer: &mut [u8], host: u8, process: u16, guard: Operation) -> 
     ensures { λ r. ⌜ writtenIs r (now (buffer .exit)) ≡ beginOn (now (buffer .entry)) host process guard ⌝ }
 {
     if !has_bytes(guard) {
-        return Added { answer: 6, fill: 0 };
+        return Added {
+            answer: MALFORMED,
+            fill: 0,
+        };
     }
     let mut t = [0u8; ROOM];
     let n = compose_begun(&mut t, host, process, guard);
@@ -307,10 +327,16 @@ pub fn operation_at(buffer: &mut [u8], fill: usize, operation: Operation) -> Add
     ensures { λ r. ⌜ writtenIs r (now (buffer .exit)) ≡ addOperation (now (buffer .entry)) fill operation ⌝ }
 {
     if !holds_body(buffer, fill) {
-        return Added { answer: 6, fill };
+        return Added {
+            answer: MALFORMED,
+            fill,
+        };
     }
     if !has_bytes(operation) {
-        return Added { answer: 6, fill };
+        return Added {
+            answer: MALFORMED,
+            fill,
+        };
     }
     let mut t = [0u8; ROOM];
     let n = compose_operation(&mut t, buffer, fill, operation);
@@ -322,10 +348,16 @@ pub fn branch_at(buffer: &mut [u8], fill: usize, guard: Operation) -> Added
     ensures { λ r. ⌜ writtenIs r (now (buffer .exit)) ≡ addBranch (now (buffer .entry)) fill guard ⌝ }
 {
     if !holds_body(buffer, fill) {
-        return Added { answer: 6, fill };
+        return Added {
+            answer: MALFORMED,
+            fill,
+        };
     }
     if !has_bytes(guard) {
-        return Added { answer: 6, fill };
+        return Added {
+            answer: MALFORMED,
+            fill,
+        };
     }
     let mut t = [0u8; ROOM];
     let n = compose_branch(&mut t, buffer, fill, guard);

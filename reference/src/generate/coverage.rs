@@ -39,6 +39,16 @@ impl Coverage {
         *self.cells.entry(cell.into()).or_insert(0) += 1;
     }
 
+    /// Adds the counts of another.
+    pub fn merge(&mut self, other: &Coverage) {
+        for (cell, count) in &other.cells {
+            *self.cells.entry(cell.clone()).or_insert(0) += count;
+        }
+        self.calls += other.calls;
+        self.taken += other.taken;
+        self.done += other.done;
+    }
+
     pub fn add(&mut self, step: &Step) {
         self.calls += 1;
         self.lengths(step);

@@ -1,5 +1,6 @@
 //! A seeded generator of streams: calls that reach every outcome.
 
+pub mod cells;
 pub mod coverage;
 pub mod damage;
 pub mod rng;
@@ -96,8 +97,23 @@ impl Stream {
         Stream { rng, profile, state, good }
     }
 
+    /// A stream from the fresh state, whose records `feed` gives in order.
+    pub fn from_fresh(seed: u64, number: u64) -> Stream {
+        let mut stream = Stream::new(seed, number);
+        stream.good = Run::fresh();
+        stream
+    }
+
     pub fn profile(&self) -> Profile {
         self.profile
+    }
+
+    /// The next record in order: of the next position and of a size that fits. The run takes it.
+    pub fn feed(&mut self) -> Vec<u8> {
+        let (mark, body, _) = self.marked_body();
+        let position = self.good.last + 1;
+        self.good.step(position, mark, &body);
+        join(mark_bytes(mark), position, &body)
     }
 
     /// Makes the next call.
@@ -141,16 +157,21 @@ impl Stream {
         bytes
     }
 
-    /// The next record: mostly the next position and a legal body.
-    fn record(&mut self) -> (Vec<u8>, &'static str) {
+    /// A mark, mostly with a legal body, and what was done to the body.
+    fn marked_body(&mut self) -> (Mark, Vec<u8>, &'static str) {
         let mark = self.mark();
         let (mut body, mut note) = (self.body(mark), "good");
         let often = if self.profile == Profile::Damage { 25 } else { 3 };
         if self.rng.percent(often) {
             (body, note) = damage::body(&mut self.rng, mark, body);
         }
-        let bytes = MARKS.iter().find(|(other, _)| *other == mark).map_or(*b"AG", |found| *found.1);
-        let mut record = join(bytes, self.good.last.wrapping_add(1), &body);
+        (mark, body, note)
+    }
+
+    /// The next record: mostly the next position and a legal body.
+    fn record(&mut self) -> (Vec<u8>, &'static str) {
+        let (mark, body, mut note) = self.marked_body();
+        let mut record = join(mark_bytes(mark), self.good.last.wrapping_add(1), &body);
         if self.rng.percent(6) {
             (record, note) = damage::record(&mut self.rng, record, self.good.last);
         }
@@ -234,6 +255,10 @@ impl Stream {
             _ => self.rng.pick(&own),
         }
     }
+}
+
+fn mark_bytes(mark: Mark) -> [u8; 2] {
+    MARKS.iter().find(|(other, _)| *other == mark).map_or(*b"AG", |found| *found.1)
 }
 
 /// Mark, length, position, body.

@@ -1,12 +1,13 @@
 -- `engine::attempt` meets its contract. Assumes nothing.
 use borrow.Author.Needs.{needs}
 use mathlib.Core.Path.{_≡_, sym, ap, subst, _∙_}
-use Prim.Native.Nat.{ℕ}
+use Prim.Native.Nat.{ℕ, _≤_}
 use native.Mathlib.Omega.{arith}
 use mathlib.Core.List.{List}
 use lib.ListN.{length}
 use denote.Ref.{now}
-use Rattle.basis.specs.Sizes.{tuplesSize}
+use Rattle.basis.specs.Lists.{zeros}
+use Rattle.basis.specs.Sizes.{tuplesSize, mostTuples}
 use Rattle.model.specs.Statement.{operations}
 use Rattle.model.specs.Matching.{unbound}
 use Rattle.model.specs.Execution.{performAll}
@@ -16,7 +17,7 @@ use Rattle.engine.specs.Performing.{Leaves}
 use Rattle.layout.specs.Stored.{statementOf}
 use Rattle.engine.specs.Branches.{body-is}
 use Rattle.engine.specs.Searching.{branchAt}
-use Rattle.engine.specs.Attempting.{picked-branch, attempt-none, attempt-fails, attempt-done, over-all}
+use Rattle.engine.specs.Attempting.{picked-branch, attempt-none, attempt-fails, attempt-done, copied-out, copied-in}
 use Rattle.engine.proofs.attempt.Statement.{statement}
 use Rattle.engine.proofs.attempt.Tie as tie
 
@@ -34,18 +35,19 @@ module _ (c : tie.After-search) where
   size = holds-length _ _ _ (start .pre .0)
 
 -- the branch runs on a copy
-module _ (c : tie.After-copy-at) where
+module _ (c : tie.After-copy-part) where
   abbrev choice : tie.After-search
   choice = c .before .before .before .before .before
 
-  copied : c .copy-at .last .0 ≡ section choice
-  copied = c .copy-at .ensures ∙ over-all _ (section choice) (sym (size choice))
+  copied : c .copy-part .last .0 ≡ section choice
+  unfolding zeros
+  copied = c .copy-part .ensures ∙ copied-out (section choice) (start choice .args .n) (start choice .pre .0)
 
   some-branch : choice .search .result .branch ≡ 0 → ⊥
   some-branch = c .before .before .before .if1 .left
 
 module _ (c : tie.After-run-branch) where
-  abbrev copy : tie.After-copy-at
+  abbrev copy : tie.After-copy-part
   copy = c .before .before .before
 
   left-is : Leaves (performAll (operations (branchAt (bytes (choice copy)) ((choice copy) .search .result .at))) unbound (tuplesOf (section (choice copy)) (start (choice copy) .args .n)))
@@ -71,11 +73,18 @@ returns c =
     let at = c .before .before .before in
     attempt-none (bytes at) (statementOf (bytes at)) (section at) (start at .args .n) (start at .pre .0) (at .search .result .branch) (at .search .result .at) (at .search .ensures) (c .before .if1 .taken) 0 (c .no-vars .result)
 
-slice-aggregate-copy-at : tie.Need-slice-aggregate-copy-at
-slice-aggregate-copy-at c = search needs
+slice-aggregate-copy-part : tie.Need-slice-aggregate-copy-part
+slice-aggregate-copy-part c = search needs
 
-copy-at-requires : tie.Need-copy-at-requires
-copy-at-requires c κs = let at = c .before .before .before .before in omega (arith, size at)
+mul-copy-part : tie.Need-mul-copy-part
+mul-copy-part c = search needs
+
+copy-part-requires : tie.Need-copy-part-requires
+copy-part-requires c κs =
+    let at = c .before .before .before .before in
+    let long = size at in
+    let few = start at .pre .0 .few in
+    (omega arith, omega arith)
 
 slice-aggregate-run-branch : tie.Need-slice-aggregate-run-branch
 slice-aggregate-run-branch c = search needs
@@ -100,23 +109,49 @@ returns-2 c =
     attempt-fails (bytes at) (statementOf (bytes at)) (section at) (start at .args .n) (start at .pre .0) (at .search .result .branch) (at .search .result .at) (at .search .ensures) (some-branch (copy run))
     (r .outcome) (r .n) (r .vars) (run .run-branch .last .0) (left-is run) (c .if2 .taken)
 
-slice-aggregate-copy-at-2 : tie.Need-slice-aggregate-copy-at-2
-slice-aggregate-copy-at-2 c = search needs
+slice-aggregate-copy-part-2 : tie.Need-slice-aggregate-copy-part-2
+slice-aggregate-copy-part-2 c = search needs
 
-copy-at-requires-2 : tie.Need-copy-at-requires-2
-copy-at-requires-2 c κs = let run = c .before .before .before .before .before .before in let e = same-size run in omega arith
+larger-requires : tie.Need-larger-requires
+larger-requires c κs = search needs
+
+-- what is copied back
+module _ (c : tie.After-larger) where
+  abbrev run : tie.After-run-branch
+  run = c .before .before .before .before .before .before .before
+
+  abbrev first : tie.After-search
+  first = choice (copy run)
+
+  after : Section (run .run-branch .last .0) (run .run-branch .result .n)
+  after = left-is run .section (c .before .before .before .if2 .left)
+
+  few : c .larger .result ≤ mostTuples
+  few = c .larger .ensures .2 (start first .pre .0 .few) (after .few)
+
+mul-copy-part-2 : tie.Need-mul-copy-part-2
+mul-copy-part-2 c = let l = few c in search needs
+
+copy-part-requires-2 : tie.Need-copy-part-requires-2
+copy-part-requires-2 c κs =
+    let l = few c in
+    let long = size (first c) in
+    let same = same-size (run c) in
+    (omega arith, omega arith)
 
 same-length-3 : tie.Need-same-length-3
-same-length-3 c = c .before .before .copy-at2 .kept .0
+same-length-3 c = c .before .before .copy-part2 .kept .0
 
 returns-3 : tie.Need-returns-3
 returns-3 c =
-    let run = c .before .before .before .before .before .before .before .before .before in
-    let at = choice (copy run) in
-    let r = run .run-branch .result in
-    attempt-done (bytes at) (statementOf (bytes at)) (section at) (start at .args .n) (start at .pre .0) (at .search .result .branch) (at .search .result .at) (at .search .ensures) (some-branch (copy run))
-    (r .outcome) (r .n) (r .vars) (run .run-branch .last .0) (left-is run) (c .before .before .before .before .before .if2 .left) _
-    (c .before .before .copy-at2 .ensures ∙ over-all (section at) (run .run-branch .last .0) (sym (same-size run)))
+    let back = c .before .before .before in
+    let ran = run back in
+    let at = first back in
+    let r = ran .run-branch .result in
+    attempt-done (bytes at) (statementOf (bytes at)) (section at) (start at .args .n) (start at .pre .0) (at .search .result .branch) (at .search .result .at) (at .search .ensures) (some-branch (copy ran))
+    (r .outcome) (r .n) (r .vars) (ran .run-branch .last .0) (left-is ran) (back .before .before .before .if2 .left) _
+    (c .before .before .copy-part2 .ensures
+    ∙ copied-in (section at) (ran .run-branch .last .0) (start at .args .n) (r .n) (back .larger .result) (start at .pre .0) (after back) (back .larger .ensures .0) (back .larger .ensures .1))
 
 pub attempt-spec : {M : Type 1} → statement M
 attempt-spec =
@@ -126,13 +161,16 @@ attempt-spec =
     no-vars-requires
     same-length
     returns
-    slice-aggregate-copy-at
-    copy-at-requires
+    slice-aggregate-copy-part
+    mul-copy-part
+    copy-part-requires
     slice-aggregate-run-branch
     run-branch-requires
     same-length-2
     returns-2
-    slice-aggregate-copy-at-2
-    copy-at-requires-2
+    slice-aggregate-copy-part-2
+    larger-requires
+    mul-copy-part-2
+    copy-part-requires-2
     same-length-3
     returns-3)

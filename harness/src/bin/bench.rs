@@ -1,0 +1,164 @@
+//! Times calls of the library, in units of one word-wise pass over 24,768 bytes in the same run.
+//!
+//!     bench [SAMPLES]
+//!
+//! Buffers are warm: each sample copies a state to the one buffer and times a call on it. The check of the
+//! state is timed by the same call with an unknown mark, which check 3 turns back; the rest is what the call
+//! takes beyond that.
+
+use harness::library::{Calls, LIBRARY, REFERENCE};
+use harness::program::{path, printed, Pieces};
+use harness::rows::{self, Row};
+use std::hint::black_box;
+use std::time::Instant;
+
+const SAMPLES: usize = 4_000;
+/// A call that is turned back leaves its buffers as they were, so that many can be timed at once.
+const AT_ONCE: usize = 32;
+
+/// Least and median nanoseconds.
+#[derive(Clone, Copy)]
+struct Times {
+    least: f64,
+    median: f64,
+}
+
+fn summed(mut samples: Vec<f64>) -> Times {
+    samples.sort_by(f64::total_cmp);
+    Times { least: samples[0], median: samples[samples.len() / 2] }
+}
+
+/// Nanoseconds of one run of `action`, made `times` times, less what reading the clock takes.
+fn clocked(times: usize, clock: f64, mut action: impl FnMut()) -> f64 {
+    let start = Instant::now();
+    for _ in 0..times {
+        action();
+    }
+    (start.elapsed().as_nanos() as f64 - clock).max(0.0) / times as f64
+}
+
+/// What reading the clock twice takes at least.
+fn clock() -> f64 {
+    summed((0..10_000).map(|_| clocked(1, 0.0, || ())).collect()).least
+}
+
+#[inline(never)]
+fn pass(bytes: &[u8]) -> u64 {
+    let word = |chunk: &[u8]| chunk.try_into().map_or(0, u64::from_ne_bytes);
+    bytes.chunks_exact(8).fold(0, |sum, chunk| sum.wrapping_add(word(chunk)))
+}
+
+/// One word-wise pass over a state.
+fn unit(samples: usize, clock: f64) -> Times {
+    let state = vec![3; 24_768];
+    let sample = |_| {
+        clocked(AT_ONCE, clock, || {
+            black_box(pass(black_box(&state)));
+        })
+    };
+    summed((0..samples).map(sample).collect())
+}
+
+/// The buffers of the calls of one row.
+struct Timed<'a> {
+    calls: Calls,
+    row: &'a Row,
+    state: Vec<u8>,
+    reply: Vec<u8>,
+    clock: f64,
+}
+
+impl Timed<'_> {
+    fn new(calls: Calls, row: &Row, clock: f64) -> Timed<'_> {
+        Timed { calls, row, state: row.states[0].clone(), reply: vec![0; row.reply_length], clock }
+    }
+
+    /// A record on the row's states in turn.
+    fn call(&mut self, record: &[u8], turn: usize, times: usize) -> f64 {
+        self.state.copy_from_slice(&self.row.states[turn % self.row.states.len()]);
+        let (take, state, reply) = (self.calls.take, &mut self.state, &mut self.reply);
+        clocked(times, self.clock, || {
+            black_box(take(state, black_box(record), reply));
+        })
+    }
+
+    /// Check of the state, whole call, and rest. A sample has both calls, on two states where there are many.
+    fn taken(&mut self, samples: usize) -> [Times; 3] {
+        let record = self.row.record.clone();
+        let unknown = [b"XX", &record[2..]].concat();
+        let [mut check, mut whole, mut rest] = [(); 3].map(|()| Vec::with_capacity(samples));
+        for number in 0..samples {
+            check.push(self.call(&unknown, number, 1));
+            whole.push(self.call(&record, number + self.row.states.len() / 2, 1));
+            rest.push(whole[number] - check[number]);
+        }
+        let (check, whole, rest) = (summed(check), summed(whole), summed(rest));
+        let rest = Times { least: whole.least - check.least, median: rest.median };
+        [check, whole, rest]
+    }
+
+    fn refused(&mut self, samples: usize) -> Times {
+        let record = self.row.record.clone();
+        summed((0..samples).map(|number| self.call(&record, number, AT_ONCE)).collect())
+    }
+}
+
+/// Both give the same answer, so that the same work is timed.
+fn agree(row: &Row) {
+    let answer = |calls: Calls| {
+        let (mut state, mut reply) = (row.states[0].clone(), vec![0; row.reply_length]);
+        let returned = (calls.take)(&mut state, &row.record, &mut reply);
+        (returned, state, reply)
+    };
+    assert!(answer(LIBRARY) == answer(REFERENCE), "{}", row.name);
+}
+
+fn print_taken(rows: &[Row], samples: usize, unit: f64, clock: f64) {
+    println!("in units{:38} check of state            rest          whole call  second", "");
+    println!("{:46}    least   median    least   median   ns, least  x whole", "");
+    for row in rows {
+        agree(row);
+        let [check, whole, rest] = Timed::new(LIBRARY, row, clock).taken(samples);
+        let [_, second, _] = Timed::new(REFERENCE, row, clock).taken(samples / 20);
+        let columns = [check.least, check.median, rest.least, rest.median].map(|time| time / unit);
+        let columns: String = columns.iter().map(|units| format!(" {units:8.2}")).collect();
+        println!("{:46}{columns} {:11.0} {:8.1}", row.name, whole.least, second.least / whole.least);
+    }
+}
+
+fn print_refused(rows: &[Row], samples: usize, unit: f64, clock: f64) {
+    println!("\nin units{:38}    least   median   ns, least  second, x whole", "");
+    for row in rows {
+        agree(row);
+        let whole = Timed::new(LIBRARY, row, clock).refused(samples);
+        let second = Timed::new(REFERENCE, row, clock).refused(samples / 20);
+        let columns = [whole.least, whole.median].map(|time| time / unit);
+        let columns: String = columns.iter().map(|units| format!(" {units:8.3}")).collect();
+        println!("{:46}{columns} {:11.1} {:8.1}", row.name, whole.least, second.least / whole.least);
+    }
+}
+
+/// The pace of `cabinet` at two lengths of stream.
+fn print_program() {
+    println!();
+    for records in [20_000, 80_000] {
+        let record = |at: u32| reference::generate::join([*b"RV", *b"CR"][at as usize % 2], at + 1, &[2]);
+        let input: Vec<u8> = (0..records).flat_map(record).collect();
+        let start = Instant::now();
+        let lines = printed(&input, &Pieces::whole()).lines().count();
+        let pace = start.elapsed().as_nanos() as f64 / f64::from(records);
+        println!("cabinet, {records:6} records, {lines:6} lines: {pace:8.0} ns a record");
+    }
+}
+
+fn main() {
+    let samples = std::env::args().nth(1).and_then(|word| word.parse().ok()).unwrap_or(SAMPLES);
+    let clock = clock();
+    let unit = unit(samples, clock);
+    println!("unit: a pass over 24,768 bytes, least {:.0} ns, median {:.0} ns\n", unit.least, unit.median);
+    print_taken(&rows::taken(), samples, unit.least, clock);
+    print_refused(&rows::refused(), samples, unit.least, clock);
+    if path().exists() {
+        print_program();
+    }
+}

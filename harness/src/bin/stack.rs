@@ -1,0 +1,14 @@
+//! Prints the bytes of stack that calls use: fresh state, rows of the benchmark, generated streams.
+//!
+//!     stack [STREAMS]
+
+use harness::measured::{fresh, generated, rows};
+
+fn main() {
+    let streams = std::env::args().nth(1).and_then(|word| word.parse().ok()).unwrap_or(1_000);
+    println!("{:6}  fresh state", fresh());
+    for (name, used) in rows() {
+        println!("{used:6}  {name}");
+    }
+    println!("{:6}  most of {streams} generated streams", generated(1, streams));
+}

@@ -1,0 +1,14 @@
+//! Holds the library `libreplica.a` and the program `cabinet` against the second implementation.
+
+pub mod caller;
+pub mod events;
+pub mod hex;
+pub mod lent;
+pub mod library;
+pub mod measured;
+pub mod program;
+pub mod replica;
+pub mod rows;
+pub mod stack;
+pub mod states;
+pub mod streams;

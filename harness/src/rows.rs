@@ -1,0 +1,117 @@
+//! Calls that go deep or take long: the rows of the benchmark, on which the stack is measured too.
+
+use crate::states::{self, any, branch, given, operation, statement};
+use reference::generate::join;
+use reference::generate::statements::wide;
+use reference::run::{Run, Space, Tuple, Waiting};
+use reference::statement::{self, Branch, Field, Operation, IN, MOVE, OUT, TRUE};
+use reference::value::{metres, name, whole};
+
+/// A record to be taken by each of some states in turn.
+pub struct Row {
+    pub name: &'static str,
+    pub states: Vec<Vec<u8>>,
+    pub record: Vec<u8>,
+    pub reply_length: usize,
+}
+
+/// The statement of host 2, process 7, as the next record of these runs.
+fn row(name: &'static str, runs: &[Run], branches: Vec<Branch>) -> Row {
+    let body = statement::write(&statement(2, 7, branches));
+    let record = join(*b"AG", runs[0].last + 1, &body);
+    Row { name, states: runs.iter().map(states::bytes).collect(), record, reply_length: 3_564 }
+}
+
+fn always(body: Vec<Operation>) -> Vec<Branch> {
+    vec![branch(operation(TRUE, &[], vec![]), body)]
+}
+
+fn out(values: &[reference::value::Value]) -> Operation {
+    operation(OUT, &[0], given(values))
+}
+
+/// in(0, name 7, this whole number, any metres), then this body.
+fn newest(number: i32, body: Vec<Operation>) -> Vec<Branch> {
+    let fields = vec![Field::Given(name(7)), Field::Given(whole(number)), any(2)];
+    vec![branch(operation(IN, &[0], fields), body)]
+}
+
+fn near_empty() -> Vec<Row> {
+    let empty = states::near_empty();
+    let mut one = empty.clone();
+    one.tuples.push(Tuple { space: 0, values: vec![name(7), whole(41)] });
+    let fields = vec![Field::Given(name(7)), Field::Bind { kind: 0, variable: 0 }];
+    let takes = vec![branch(operation(IN, &[0], fields), vec![])];
+    vec![
+        row("out, near-empty", &[empty], always(vec![out(&[name(7), whole(41)])])),
+        row("in, near-empty", &[one], takes),
+    ]
+}
+
+fn many_tuples() -> Vec<Row> {
+    let regular = states::regular();
+    let random: Vec<Run> = (1..=64).map(states::random).collect();
+    let nothing = operation(IN, &[0], given(&[name(8)]));
+    let six = vec![branch(operation(IN, &[0], given(&[whole(511); 6])), vec![])];
+    vec![
+        row("512 tuples of 3, in of the newest", std::slice::from_ref(&regular), newest(511, vec![])),
+        row("512 tuples of 6, in of the newest", &[states::six_fields()], six),
+        row("512 random, 64 states, in of the newest", &random, newest(511, vec![])),
+        row("512 tuples, in of the oldest, then fails", &[regular], newest(0, vec![nothing])),
+    ]
+}
+
+/// Takes the oldest tuple and puts one that again meets no guard.
+fn many_guards() -> Vec<Row> {
+    let fields = [1, 0, 1, 0, 0, 0].map(any).to_vec();
+    let values = [name(7), whole(1), name(2), whole(3), whole(99), whole(99)];
+    let takes = vec![branch(operation(IN, &[0], fields), vec![out(&values)])];
+    vec![
+        row("512 tuples, 31 x 4 guards, one place differs", &[states::near_misses(false)], takes.clone()),
+        row("512 tuples, 31 x 4 guards, any place differs", &[states::near_misses(true)], takes),
+    ]
+}
+
+fn moves_and_wakes() -> Vec<Row> {
+    let mut two_spaces = states::regular();
+    two_spaces.next = 2;
+    two_spaces.spaces.push(Space { number: 1, private: false, owner: 0 });
+    let moves = operation(MOVE, &[0, 1], vec![]);
+    let mut mover = two_spaces.clone();
+    mover.tuples.pop();
+    let waits = vec![branch(operation(IN, &[0], given(&[name(9)])), vec![moves.clone()])];
+    mover.waiting.push(Waiting { position: 1, statement: statement(2, 8, waits) });
+    let feeds = always(vec![out(&[name(7), whole(41)])]);
+    vec![
+        row("move of 512", &[two_spaces], always(vec![moves])),
+        row("out that wakes a move of 511", &[mover], always(vec![out(&[name(9)])])),
+        row("out that wakes 32", &[states::crowd(false)], feeds),
+        row("outs that wake 32, 16 values each", &[states::crowd(true)], wide(2, 7, true).branches),
+    ]
+}
+
+/// Records that are taken.
+pub fn taken() -> Vec<Row> {
+    let rows = [near_empty(), many_tuples(), many_guards(), moves_and_wakes()];
+    rows.into_iter().flatten().collect()
+}
+
+/// Refusals 1 to 5 on a near-empty state, 1 for three reasons.
+pub fn refused() -> Vec<Row> {
+    let good = || row("", &[states::near_empty()], always(vec![out(&[metres(0)])]));
+    let changed = |name: &'static str, change: fn(&mut Row)| {
+        let mut row = good();
+        row.name = name;
+        change(&mut row);
+        row
+    };
+    vec![
+        changed("refusal 1, length", |row| row.states[0].truncate(24_767)),
+        changed("refusal 1, first byte", |row| row.states[0][0] = 0),
+        changed("refusal 1, last byte", |row| row.states[0][24_767] = 1),
+        changed("refusal 2", |row| row.reply_length = 3_563),
+        changed("refusal 3", |row| row.record[0] = b'X'),
+        changed("refusal 4", |row| row.record[7] = 1),
+        changed("refusal 5", |row| row.record[7] = 3),
+    ]
+}

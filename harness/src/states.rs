@@ -1,0 +1,200 @@
+//! States built by hand, to be damaged, to measure the stack and to time calls on.
+
+use reference::generate::rng::Rng;
+use reference::generate::statements::{signal, wide};
+use reference::layout::{encode, is_state};
+use reference::run::{Run, Space, Tuple, Waiting};
+use reference::statement::{Branch, Field, Operation, Statement, IN, INP, MOVE, OUT, RD, RDP};
+use reference::value::{metres, name, whole, Value};
+
+// ---- Parts ----
+
+pub fn operation(code: u8, spaces: &[u8], fields: Vec<Field>) -> Operation {
+    Operation { code, spaces: spaces.to_vec(), fields }
+}
+
+pub fn given(values: &[Value]) -> Vec<Field> {
+    values.iter().map(|value| Field::Given(*value)).collect()
+}
+
+pub fn any(kind: u8) -> Field {
+    Field::Any { kind }
+}
+
+pub fn branch(guard: Operation, body: Vec<Operation>) -> Branch {
+    Branch { guard, body }
+}
+
+pub fn statement(host: u8, process: u16, branches: Vec<Branch>) -> Statement {
+    Statement { host, process, branches }
+}
+
+fn tuple(space: u8, values: &[Value]) -> Tuple {
+    Tuple { space, values: values.to_vec() }
+}
+
+/// The bytes of a run that is a state.
+pub fn bytes(run: &Run) -> Vec<u8> {
+    let bytes = encode(run);
+    assert!(is_state(&bytes));
+    bytes
+}
+
+/// Host 2 is up, and nothing else.
+pub fn near_empty() -> Run {
+    let mut run = Run { last: 1, ..Run::fresh() };
+    run.up[2] = true;
+    run
+}
+
+// ---- States to be damaged ----
+
+/// A tuple of a count of values, whose kinds and values go by the number; neighbours differ in kind.
+fn mixed_tuple(space: u8, number: usize, count: usize) -> Tuple {
+    let kinds = [whole(-(number as i32)), name(number as u16), metres(0xC060_0000)];
+    Tuple { space, values: (0..count).map(|at| kinds[(number + at) % 3]).collect() }
+}
+
+/// in on (name 999) and three more guards, each of another code; none holds.
+fn four_guards(host: u8, process: u16, spaces: [u8; 2]) -> Statement {
+    let mark = |number| given(&[name(number)]);
+    let feeds = operation(OUT, &[spaces[0]], given(&[name(998), metres(1)]));
+    let moves = operation(MOVE, &spaces, vec![any(1)]);
+    let branches = vec![
+        branch(operation(IN, &[spaces[0]], mark(999)), vec![feeds]),
+        branch(operation(INP, &[spaces[1]], mark(998)), vec![moves]),
+        branch(operation(RD, &[spaces[1]], vec![any(1), Field::Bind { kind: 1, variable: 9 }]), vec![]),
+        branch(operation(RDP, &[spaces[0]], mark(997)), vec![]),
+    ];
+    statement(host, process, branches)
+}
+
+/// A body of 250 bytes that waits for one metres value in a space.
+fn longest(host: u8, process: u16, space: u8) -> Statement {
+    let out = operation(OUT, &[space], given(&[whole(0); 6]));
+    let mut body = vec![out; 6];
+    body.push(operation(MOVE, &[space, space], vec![any(0)]));
+    statement(host, process, vec![branch(operation(RD, &[space], vec![any(2)]), body)])
+}
+
+fn wait(run: &mut Run, position: u32, statement: Statement) {
+    run.waiting.push(Waiting { position, statement });
+}
+
+/// A state with something in each section, and room in each.
+pub fn small() -> Run {
+    let mut run = Run { last: 1000, monitors: 3, next: 9, ..Run::fresh() };
+    for host in [0, 2, 15] {
+        run.up[host] = true;
+    }
+    for (number, private, owner) in [(2, false, 0), (3, true, 5), (7, true, 0), (8, true, 65_535)] {
+        run.spaces.push(Space { number, private, owner });
+    }
+    for number in 0..14 {
+        let space = [0, 2, 3, 7, 8][number % 5];
+        run.tuples.push(mixed_tuple(space, number, 2 + number % 5));
+    }
+    wait(&mut run, 3, signal(0, 40));
+    wait(&mut run, 700, four_guards(2, 5, [0, 3]));
+    wait(&mut run, 998, longest(15, 41, 2));
+    wait(&mut run, 999, wide(2, 42, false));
+    wait(&mut run, 1000, four_guards(0, 65_535, [8, 2]));
+    run
+}
+
+/// All tables are full, and one more record can be taken.
+pub fn full() -> Run {
+    let mut run = Run { last: u32::MAX - 1, monitors: 8, next: 256, up: [true; 16], ..Run::fresh() };
+    for number in 225..=255 {
+        let private = number % 3 == 0;
+        run.spaces.push(Space { number, private, owner: if private { u16::from(number) } else { 0 } });
+    }
+    for number in 0..512 {
+        let space = run.spaces[number % 32].number;
+        run.tuples.push(mixed_tuple(space, number, 2 + number % 5));
+    }
+    for number in 0..32 {
+        let process = 224 + number as u16;
+        let space = if number % 3 == 1 { process as u8 } else { 0 };
+        let statement = match number % 4 {
+            0 => longest(number, process, 0),
+            _ => four_guards(number % 16, process, [space, 0]),
+        };
+        wait(&mut run, 1 + u32::from(number) * 100_000_000, Statement { host: number % 16, ..statement });
+    }
+    run
+}
+
+// ---- States to time calls on ----
+
+/// 512 tuples of one shape, (name 7, whole, metres).
+pub fn regular() -> Run {
+    let mut run = near_empty();
+    let shaped = |number| tuple(0, &[name(7), whole(number), metres(0x3F80_0000)]);
+    run.tuples = (0..512).map(shaped).collect();
+    run
+}
+
+/// 512 tuples of six whole numbers.
+pub fn six_fields() -> Run {
+    let mut run = near_empty();
+    run.tuples = (0..512).map(|number| tuple(0, &[whole(number); 6])).collect();
+    run
+}
+
+/// 512 tuples of random counts and kinds; the newest is (name 7, whole 511, metres 1).
+pub fn random(seed: u64) -> Run {
+    let mut rng = Rng::new(seed);
+    let mut run = near_empty();
+    for _ in 0..511 {
+        let count = 1 + rng.below(6);
+        let values: Vec<Value> = (0..count)
+            .map(|_| match rng.below(3) {
+                0 => whole(rng.next() as i32),
+                1 => name(rng.next() as u16),
+                _ => metres(0x4000_0000 | rng.next() as u32 >> 9),
+            })
+            .collect();
+        run.tuples.push(tuple(0, &values));
+    }
+    run.tuples.push(tuple(0, &[name(7), whole(511), metres(0x3F80_0000)]));
+    run
+}
+
+/// 512 tuples and 31 statements of 4 branches. A guard gives six values, which differ from each tuple's in
+/// one: always the last, or one that varies.
+pub fn near_misses(varying: bool) -> Run {
+    let mut run = near_empty();
+    run.last = 1000;
+    let base = [name(7), whole(1), name(2), whole(3), whole(4), whole(5)];
+    for number in 0..512 {
+        let mut values = base;
+        let at = if varying { number * 7 % 6 } else { 5 };
+        values[at] =
+            if at == 0 || at == 2 { name(1000 + number as u16) } else { whole(1000 + number as i32) };
+        run.tuples.push(tuple(0, &values));
+    }
+    for number in 0..31 {
+        let mut branches = Vec::new();
+        for at in 0..4 {
+            let mut values = base;
+            if !varying {
+                values[5] = whole(100_000 + 4 * number + at);
+            }
+            branches.push(branch(operation(IN, &[0], given(&values)), vec![]));
+        }
+        wait(&mut run, 1 + number as u32, statement(2, 100 + number as u16, branches));
+    }
+    run
+}
+
+/// 32 statements that wait for one tuple; wide ones bind all 16 variables.
+pub fn crowd(all_variables: bool) -> Run {
+    let mut run = near_empty();
+    run.last = 1000;
+    for number in 0..32 {
+        let process = 100 + number as u16;
+        wait(&mut run, 1 + number, if all_variables { wide(2, process, false) } else { signal(2, process) });
+    }
+    run
+}
