@@ -1,6 +1,6 @@
--- What the claim over two replicas shuts out, though the run stays right: the first three programs of "Four lines on contracts", each as a definition of the call, with a list on which a part of the claim is false of it. Assumes nothing.
+-- What the claim over two replicas and the contract of the call shut out: the programs of "Four lines on contracts", each as a definition of the call. The claim: the first three, with a list on which a part of it is false. The contract: all six, at a named input. Assumes nothing.
 use mathlib.Core.Path.{_≡_, refl, sym, ap, subst, _∙_}
-use Prim.Native.Nat.{ℕ, suc}
+use Prim.Native.Nat.{ℕ, suc, _≤_}
 use native.Mathlib.Omega.{arith}
 use mathlib.Core.Bool.{true, cond}
 use mathlib.Core.Option.{Option, none, some, Option·some-injective}
@@ -23,7 +23,7 @@ use Rattle.layout.specs.Replies.{repliesBytes}
 use Rattle.layout.specs.States.{encode, decode}
 use Rattle.layout.specs.IsState.{isState}
 use Rattle.layout.specs.StateLaws.{decode-encode, encode-state}
-use Rattle.calls.specs.Calls.{Bytes, Lent, Answer, numberOf, refusalAt, refusal, stepBytes, laidOver, turnedBack, taken, freshCall, takeCall}
+use Rattle.calls.specs.Calls.{Bytes, Lent, Answer, numberOf, refusalAt, refusal, stepBytes, laidOver, turnedBack, taken, freshCall, takeCall, answer}
 use Rattle.calls.specs.TwoReplicas.{Side, one, Held, Event, call, Condition, running, World, replace, holding, took, positionAfter, called, after, CanCall, Befalls, begin, Called, positionOf, callOf, calls, inputOf, inputs, runAt, NoClash, Taken, Answered, Claim}
 use Rattle.calls.specs.CallLaws.{stepBytes-sound, fresh-made, count-took}
 use Rattle.calls.specs.NotEmpty.{record1, numbered1, buffers, buffers-fresh, Tabled, tabled, no-clash}
@@ -296,3 +296,75 @@ untried-18-shut-out = untried-shut-out 18 0 (λ e. omega arith)
 -- no body tried: 16, in branch 1
 pub untried-16-shut-out : Answers (callBy (answersUntried 16 1)) stream → ⊥
 untried-16-shut-out = untried-shut-out 16 1 (λ e. omega arith)
+
+-- ---- the contract of the call shuts out all six, at a named input
+
+-- record 1 on the fresh state; record 2 on the state after it
+pub first-call : Lent
+first-call = lend empty record1
+
+pub second-call : Lent
+second-call = record { state = encode run1; input = record2; reply = zeros replySize }
+
+-- what is returned there, where `work` is done in place of the run's step
+first-returned : (work : Run → Record → Turn) → (callBy work first-call) .returned ≡ length (repliesBytes ((work fresh item1) .replies))
+unfolding first-call lend empty
+first-returned work = ap (λ (a : Answer). a .returned) (does-work work fresh first-call item1 fresh-sound refl read1 (unfold fresh in passes .0))
+
+second-returned : (work : Run → Record → Turn) → (callBy work second-call) .returned ≡ length (repliesBytes ((work run1 item2) .replies))
+unfolding second-call
+second-returned work = ap (λ (a : Answer). a .returned) (does-work work run1 second-call item2 run1-sound refl read2 (rw last1 (passes .1)))
+
+-- the call's own: a reply with one value, then one with none
+first-count : (takeCall first-call) .returned ≡ 18
+unfolding computes item1
+first-count = sym (ap (λ (a : Answer). a .returned) (callBy-step first-call)) ∙ first-returned step
+
+second-count : (takeCall second-call) .returned ≡ 12
+unfolding computes item1 item2 run1
+second-count = sym (ap (λ (a : Answer). a .returned) (callBy-step second-call)) ∙ second-returned step
+
+-- "works the first record and merely advances afterwards"
+pub advancing-differs : callBy merelyAdvances second-call ≡ takeCall second-call → ⊥
+unfolding computes merelyAdvances item1 item2 run1
+advancing-differs e = let n : _≡_ {A = ℕ} 0 12 = sym (second-returned merelyAdvances) ∙ ap (λ (a : Answer). a .returned) e ∙ second-count in omega arith
+
+-- "leaves every statement waiting"
+pub waiting-differs : callBy leavesWaiting second-call ≡ takeCall second-call → ⊥
+unfolding computes leavesWaiting onStatements statementOf item1 item2 run1
+waiting-differs e = let n : _≡_ {A = ℕ} 0 12 = sym (second-returned leavesWaiting) ∙ ap (λ (a : Answer). a .returned) e ∙ second-count in omega arith
+
+-- "answers 18 or 16 untried": the outcome stands in byte 9
+second-reply : (work : Run → Record → Turn) → take ((callBy work second-call) .returned) ((callBy work second-call) .reply) ≡ repliesBytes ((work run1 item2) .replies)
+unfolding second-call
+second-reply work = work-replies work run1 second-call item2 run1-sound refl read2 (rw last1 (passes .1))
+
+pub untried-differs : (n b : ℕ) → (n ≡ 0 → ⊥) → callBy (answersUntried n b) second-call ≡ takeCall second-call → ⊥
+unfolding computes answersUntried onStatements statementOf item1 item2 run1
+untried-differs n b differs e =
+    let given : Answer → Bytes = λ a. take (a .returned) (a .reply) in
+    differs (ap (λ (bytes : Bytes). getD bytes 9 0) (sym (second-reply (answersUntried n b)) ∙ ap given (e ∙ sym (callBy-step second-call)) ∙ second-reply step))
+
+-- "sends every record back", by whatever number
+pub sends-back-differs : (n : ℕ) → n ≤ 5 → turnedBack first-call n ≡ takeCall first-call → ⊥
+unfolding turnedBack
+sends-back-differs n few e = let c : n ≡ 18 = ap (λ (a : Answer). a .returned) e ∙ first-count in omega arith
+
+-- "giving a fixed reply", whatever it leaves of the state
+pub fixedReply : Bytes → (left : Lent → Bytes) → Lent → Answer
+fixedReply bytes left l = answer (length bytes) (left l) (laidOver bytes (l .reply))
+
+pub fixed-differs : (bytes : Bytes) (left : Lent → Bytes) → ((l : Lent) → fixedReply bytes left l ≡ takeCall l) → ⊥
+unfolding fixedReply
+fixed-differs bytes left e =
+    let one : length bytes ≡ 18 = ap (λ (a : Answer). a .returned) (e first-call) ∙ first-count in
+    let two : length bytes ≡ 12 = ap (λ (a : Answer). a .returned) (e second-call) ∙ second-count in
+    omega arith
+
+-- "one inert"
+pub inert : Lent → Answer
+inert l = answer 0 (l .state) (l .reply)
+
+pub inert-differs : inert first-call ≡ takeCall first-call → ⊥
+unfolding inert
+inert-differs e = let c : _≡_ {A = ℕ} 0 18 = ap (λ (a : Answer). a .returned) e ∙ first-count in omega arith
