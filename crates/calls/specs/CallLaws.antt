@@ -121,14 +121,9 @@ refused-small last x reply n e = reply-long (ltb (length reply) replySize) e
 
 -- ---- the calls
 
-pub fresh-made : (buffer : Bytes) → (freshCall buffer) .returned ≡ 0 → (freshCall buffer) .state ≡ encode fresh
+pub fresh-made : (buffer : Bytes) → length buffer ≡ stateSize → (freshCall buffer) .state ≡ encode fresh
 unfolding freshCall
-fresh-made buffer e = go (eqb (length buffer) stateSize) e
-  where
-    go : (b : Bool) → (cond {A = FreshAnswer} b (record { returned = 0; state = encode fresh }) (record { returned = 1; state = buffer })) .returned ≡ 0
-        → (cond {A = FreshAnswer} b (record { returned = 0; state = encode fresh }) (record { returned = 1; state = buffer })) .state ≡ encode fresh
-    go true e = refl
-    go false e = absurd (omega arith)
+fresh-made buffer e = rw e
 
 -- what a taken call answers, of the run that its state is
 abbrev pub takenBy : Run → Lent → Answer

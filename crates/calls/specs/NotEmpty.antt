@@ -102,9 +102,9 @@ incident =
 
 -- ---- it befalls
 
-pub buffers-fresh : (c : Side) → (freshCall (buffers c)) .returned ≡ 0
-unfolding freshCall buffers
-buffers-fresh c = rw (zeros-length stateSize)
+pub buffers-fresh : (c : Side) → length (buffers c) ≡ stateSize
+unfolding buffers
+buffers-fresh c = zeros-length stateSize
 
 -- a call that passes the checks on the bytes of a sound run takes its record
 took-next : (s : Run) (l : Lent) → Sound s → l .state ≡ encode s → refusalAt (s .last) (l .input) (l .reply) ≡ none → T (took (takeCall l))
@@ -272,13 +272,9 @@ unfolding after replace stop
 stopped-now w one m left = tt
 stopped-now w two m left = tt
 
-fresh-returned : (buffer : Bytes) → length buffer ≡ stateSize → (freshCall buffer) .returned ≡ 0
-unfolding freshCall
-fresh-returned buffer e = rw e
-
 -- after any cut the replica can restart by the fresh-state call, on a buffer of 24,768 bytes
 pub fresh-restart-befalls : (w : World) (c : Side) (m : Moment) (left buffer : Bytes) → length buffer ≡ stateSize → Can (after w (cut c m left)) (restartFresh c buffer)
-fresh-restart-befalls w c m left buffer e = (stopped-now w c m left, fresh-returned buffer e)
+fresh-restart-befalls w c m left buffer e = (stopped-now w c m left, e)
 
 -- a replica has held a state, and the one that it holds is of those
 record Keeps (k : Replica) : Type 0 where

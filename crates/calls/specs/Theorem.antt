@@ -11,6 +11,7 @@ use lib.Seq.{take-at}
 use lib.Pow.{areBytes}
 use lib.Dec.{T, T-not, ltb, eqb, eqb→eq, eqb-refl, eqb·suc-zero}
 use lib.Arith.{le→nltb}
+use Rattle.basis.specs.Sizes.{stateSize}
 use Rattle.basis.specs.Choice.{maybe}
 use Rattle.basis.specs.Logic.{is-true, is-false, false-is, true-is, no-or}
 use Rattle.basis.specs.ListLaws.{Each, each-nil, each-cons, each-append, all-at, none-at, any-of}
@@ -123,7 +124,7 @@ good-stop : (xs : List Bytes) (left : Bytes) (k : Replica) → GoodReplica xs k 
 unfolding stop
 good-stop xs left k gk = record { now = tt; past = gk .past; latest = tt }
 
-good-fresh : (xs : List Bytes) (buffer : Bytes) → (freshCall buffer) .returned ≡ 0 → Good xs (record { position = 0; bytes = (freshCall buffer) .state })
+good-fresh : (xs : List Bytes) (buffer : Bytes) → length buffer ≡ stateSize → Good xs (record { position = 0; bytes = (freshCall buffer) .state })
 unfolding runAt fresh
 good-fresh xs buffer e = record { run = fresh; sound = fresh-sound; last = refl; reached = refl; bytes = fresh-made buffer e }
 
@@ -165,7 +166,7 @@ module _ (xs : List Bytes) (nc : NoClash xs) (c : Side) (h : Held) (g : Good xs 
       let replies : replyBytesOf this ≡ repliesBytes ((stepBytes (g .run) (l .input)) .replies) =
       ap (λ (a : Answer). take (a .returned) (a .reply)) e ∙ take-at (repliesBytes ((stepBytes (g .run) (l .input)) .replies)) _ _ refl in (
         subst (λ (n : ℕ). Good xs (record { position = n; bytes = (takeCall l) .state })) (sym at) good,
-        rw pass (record { taken = tk; next = next; run = g .run; reached = g .reached; replies = replies; state = ap (λ (a : Answer). a .state) e }),
+        rw pass (record { taken = tk; next = next; run = g .run; reached = g .reached; count = ap (λ (a : Answer). a .returned) e; replies = replies; state = ap (λ (a : Answer). a .state) e }),
       )
 
   is-turned-back : (n : ℕ) → takeCall l ≡ turnedBack l n → refusalAt (h .position) (l .input) (l .reply) ≡ some n → Next
@@ -220,7 +221,7 @@ module _ (xs : List Bytes) (nc : NoClash xs) where
 
 -- ---- the claim
 
-good-begin : (xs : List Bytes) (buffers : Side → Bytes) → ((c : Side) → (freshCall (buffers c)) .returned ≡ 0) → GoodWorld xs (begin buffers)
+good-begin : (xs : List Bytes) (buffers : Side → Bytes) → ((c : Side) → length (buffers c) ≡ stateSize) → GoodWorld xs (begin buffers)
 unfolding begin
 good-begin xs buffers e c = good-holding xs _ _ (good-fresh xs (buffers c) (e c)) (each-nil (Good xs))
 

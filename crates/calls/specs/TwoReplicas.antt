@@ -4,9 +4,10 @@ use Prim.Native.Nat.{ℕ, zero, suc}
 use mathlib.Core.Bool.{Bool, true, false, cond, _||_}
 use mathlib.Core.Option.{Option, none, some}
 use mathlib.Core.List.{List, [], _∷_, _++_, List·Memᴰ}
-use lib.ListN.{take}
+use lib.ListN.{length, take}
 use lib.Dec.{T, ltb, eqb}
 use lib.Pow.{areBytes}
+use Rattle.basis.specs.Sizes.{stateSize}
 use Rattle.basis.specs.Choice.{maybe}
 use Rattle.model.specs.Statement.{Operation, always, lookup, deposit, transfer, Branch}
 use Rattle.model.specs.Matching.{Tuple, unbound, matches}
@@ -101,11 +102,11 @@ abbrev pub IsStopped : Condition → Type 0
 IsStopped (running h) = ⊥
 IsStopped (stopped b) = Unit {0}
 
--- "A whole copy is of a state that the other held between calls, its latest or an earlier one, never of one in flight or cut"
+-- the fresh-state call works on any bytes of the right length; "A whole copy is of a state that the other held between calls, its latest or an earlier one, never of one in flight or cut"
 abbrev pub Can : World → Event → Type 0
 Can w (call c l) = CanCall ((w c) .condition) l
 Can w (cut c m left) = Unit {0}
-Can w (restartFresh c buffer) = IsStopped ((w c) .condition) × ((freshCall buffer) .returned ≡ 0)
+Can w (restartFresh c buffer) = IsStopped ((w c) .condition) × (length buffer ≡ stateSize)
 Can w (restartCopy c h) = IsStopped ((w c) .condition) × List·Memᴰ h ((w (other c)) .history)
 
 -- the events of a list can befall one after the other
@@ -206,6 +207,7 @@ pub record Taken (xs : List Bytes) (k : Called) : Type 0 where
   pub next : numberOf (k .lent .input) ≡ some (suc (k .position))
   pub run : Run
   pub reached : runAt xs (k .position) ≡ some run
+  pub count : (answer k) .returned ≡ length (repliesBytes ((stepBytes run (k .lent .input)) .replies))
   pub replies : replyBytesOf k ≡ repliesBytes ((stepBytes run (k .lent .input)) .replies)
   pub state : (answer k) .state ≡ encode ((stepBytes run (k .lent .input)) .run)
 
@@ -240,5 +242,5 @@ pub record Claim (w : World) (es : List Event) : Type 0 where
 -- DEMAND 3, over every list of events on two replicas that start empty
 abbrev pub Demand3 : Type 0
 Demand3 =
-    (buffers : Side → Bytes) → ((c : Side) → (freshCall (buffers c)) .returned ≡ 0)
+    (buffers : Side → Bytes) → ((c : Side) → length (buffers c) ≡ stateSize)
     → (es : List Event) → Befalls (begin buffers) es → NoClash (inputs es) → Claim (begin buffers) es

@@ -13,7 +13,7 @@ use Rattle.basis.specs.Choice.{maybe, firstNumber}
 use Rattle.basis.specs.Logic.{is-true, and-l, and-r}
 use Rattle.basis.specs.Lists.{all, zeros}
 use Rattle.basis.specs.ListLaws.{each-nil, each-cons}
-use Rattle.basis.specs.Sizes.{replySize}
+use Rattle.basis.specs.Sizes.{replySize, stateSize}
 use Rattle.model.specs.Statement.{Statement}
 use Rattle.model.specs.Run.{Run, fresh, withLast, withWaiting, Turn}
 use Rattle.model.specs.Step.{RV, AG, Record, recordOf, Request, recover, crash, monitor, openSpace, closeSpace, guarded, requestOf, checks, askingHost, askingProcess, refused, malformed, effect, settled, step}
@@ -102,16 +102,16 @@ unfolding events callsFrom inputs inputOf lend
 events-inputs h [] = refl
 events-inputs h (x ∷ xs) = ap (λ (l : List Bytes). x ∷ l) (events-inputs (heldAfter takeCall h (lend h x)) xs)
 
-begins-empty : (starts : Side → Bytes) → ((c : Side) → (freshCall (starts c)) .returned ≡ 0) → (begin starts one) .condition ≡ running empty
+begins-empty : (starts : Side → Bytes) → ((c : Side) → length (starts c) ≡ stateSize) → (begin starts one) .condition ≡ running empty
 unfolding begin holding empty
 begins-empty starts e = ap (λ (b : Bytes). running (record { position = 0; bytes = b })) (fresh-made (starts one) (e one))
 
 -- the list befalls
-pub list-befalls : (starts : Side → Bytes) → ((c : Side) → (freshCall (starts c)) .returned ≡ 0) → (xs : List Bytes) → T (all areBytes xs) → Befalls (begin starts) (events empty xs)
+pub list-befalls : (starts : Side → Bytes) → ((c : Side) → length (starts c) ≡ stateSize) → (xs : List Bytes) → T (all areBytes xs) → Befalls (begin starts) (events empty xs)
 list-befalls starts e xs t = events-befall (begin starts) empty xs (begins-empty starts e) t
 
 -- and the claim of it has the part
-pub part-of-claim : (starts : Side → Bytes) → ((c : Side) → (freshCall (starts c)) .returned ≡ 0) → (xs : List Bytes) → Claim (begin starts) (events empty xs) → Answers takeCall xs
+pub part-of-claim : (starts : Side → Bytes) → ((c : Side) → length (starts c) ≡ stateSize) → (xs : List Bytes) → Claim (begin starts) (events empty xs) → Answers takeCall xs
 part-of-claim starts e xs claim k i pass =
     let listed = subst (List·Memᴰ k) (sym (events-calls (begin starts) empty xs (begins-empty starts e))) i in
     let t : Taken (inputs (events empty xs)) k = subst (Answered (inputs (events empty xs)) k) pass (claim .answers k listed) in

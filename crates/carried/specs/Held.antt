@@ -1,6 +1,8 @@
 -- "The writer is begun on a lent buffer and carries it along from addition to addition": the struct at what each call leaves. Assumes nothing.
+use mathlib.Core.Bool.{cond}
 use mathlib.Core.List.{List}
 use Prim.Native.Nat.{ℕ}
+use lib.Dec.{eqb}
 use denote.Ref.{RefT, now, at-last}
 use Rattle.statements.specs.declared.Operation.{Operation}
 use Rattle.writer.specs.Writer.{Written, beginOn, addOperation, addBranch}
@@ -12,15 +14,19 @@ use Rattle.carried.specs.declared.Writer.{Writer}
 abbrev pub holding : RefT (List ℕ) → Written → Writer
 holding buffer o = record { buffer = at-last buffer (o .bytes); fill = o .fill; answer = o .answer }
 
--- what a writer shows: the answer of its last addition, its fill, and its buffer's bytes
+-- what the calls so far have left: their answer, the fill and the buffer's bytes
+abbrev pub left : (answer fill : ℕ) (bytes : List ℕ) → Written
+left answer fill bytes = record { answer = answer; fill = fill; bytes = bytes }
+
+-- what a writer shows: its answer, its fill and its buffer's bytes
 abbrev pub shown : Writer → Written
-shown w = record { answer = w .answer; fill = w .fill; bytes = now (w .buffer) }
+shown w = left (w .answer) (w .fill) (now (w .buffer))
 
 -- ---- from call to call
 
--- an addition to what the call before it left
-abbrev pub onward : ((buffer : List ℕ) (fill : ℕ) → Operation → Written) → Written → Operation → Written
-onward add o x = add (o .bytes) (o .fill) x
+-- an addition to what the calls before it left, if each of them was done; after a refusal it changes nothing, and that answer stays
+unfoldable pub onward : ((buffer : List ℕ) (fill : ℕ) → Operation → Written) → Written → Operation → Written
+onward add o x = cond (eqb (o .answer) 0) (add (o .bytes) (o .fill) x) o
 
 -- "begun on a lent buffer": host, process and first guard
 abbrev pub begunOn : RefT (List ℕ) → (host process : ℕ) → Operation → Writer

@@ -41,8 +41,8 @@ use Rattle.statements.specs.declared.Operation.{Operation}
 use Rattle.writer.specs.declared.Added.{Added}
 use Rattle.writer.specs.Writer.{writtenIs, beginOn, addOperation, addBranch}
 use Rattle.carried.specs.declared.Writer.{Writer}
-use Rattle.carried.specs.Held.{begunOn, operationOn, branchOn, onward}
-use Rattle.carried.specs.HeldLaws.{length-begin, length-operation, length-branch}
+use Rattle.carried.specs.Held.{shown, begunOn, operationOn, branchOn, onward}
+use Rattle.carried.specs.HeldLaws.{length-begin, length-operation, length-branch, length-onward}
 use Rattle.carried.proofs.Writer as T
 use Rattle.carried.proofs.Writer.Laws as T′
 use Rattle.statements.proofs.Operation as I
@@ -131,7 +131,7 @@ module _ {M : Type 1} (𝓤 : URA M) (H : Heap 𝓤) (A : Atoms 𝓤) (W : Given
 
   -- none has changed the slice's length
   kept-length : length (h₃ .buffer .now) ≡ length ys
-  kept-length = length-operation _ _ o₂ ∙ length-branch _ _ g₂ ∙ length-operation _ _ o₁ ∙ length-begin ys n k g₁
+  kept-length = length-onward addOperation length-operation (shown h₂) o₂ ∙ length-onward addBranch length-branch (shown h₁) g₂ ∙ length-onward addOperation length-operation (shown h₀) o₁ ∙ length-begin ys n k g₁
 
   -- the machine value of a writer has the struct's MIR type, whose lifetimes a local's erases
   typed : (h : Writer) (w : Val) → Is (T.the-row α) h (w ∷ []) → Holds (hasTy (T′.mir erased) w) × WT w

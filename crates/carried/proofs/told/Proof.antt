@@ -32,7 +32,7 @@ use denote.Triple.Walked.{says, Stays, walkOf, Walks, ends-at, walked, walk-meet
 use denote.Signature.{namedLft}
 use Rattle.carried.specs.declared.Writer.{Writer}
 use Rattle.writer.specs.declared.Added.{Added}
-use Rattle.carried.specs.HeldLaws.{shown-told}
+use Rattle.carried.specs.HeldLaws.{left-told}
 use Rattle.carried.proofs.Writer as T
 use Rattle.carried.proofs.Writer.Laws as T′
 use Rattle.writer.proofs.Added as R
@@ -72,7 +72,7 @@ module _ {M : Type 1} (𝓤 : URA M) (H : Heap 𝓤) (A : Atoms 𝓤) (W : Given
   exits : ent 𝓤 (onEntry 𝓤 H A told.signature (κ, tt) (q, tt) (h, tt) vals) (Post mr)
   exits =
       qed W ((‵ (flft κ q) ⊛ ‵ ftrue) ∷ ‵ (owns (T.the-row α ∷ []) (h, tt) vals) ∷ []) ∵
-      suffices ! _ (ends-at 𝓤 H A told.ended stayed (told.clauses 𝓤 H A mem run) W (((κ, tt), (q, tt), tt, (h, tt), vals), tt) mr res ((ys, tt), tt) ((refl, (tt, (tt, tt))), tt)) $ says ! (shown-told h) $
+      suffices ! _ (ends-at 𝓤 H A told.ended stayed (told.clauses 𝓤 H A mem run) W (((κ, tt), (q, tt), tt, (h, tt), vals), tt) mr res ((ys, tt), tt) ((refl, (tt, (tt, tt))), tt)) $ says ! (left-told k n ys) $
       frame ! $ frame ! $ owned ! R.the-row (Is R.the-row) (LL.makes R.the-type R′.the-plain 𝓤 H A) res _ (LL.owes R.the-type R′.the-laws res ((refl, k-fits), ((refl, n-fits), tt))) $ done !
 
   module _ (C : Calls 𝓤 H) (Λ : Loops 𝓤 H) where
