@@ -7,12 +7,15 @@
  * A replica lives in a state buffer that the caller lends. Records arrive numbered 1, 2, 3, .. and are handed in one
  * by one; each gives the replies to be sent. Replicas that took the same records have the same state, byte for byte.
  *
- * For both functions:
+ * The writer makes the body of a statement's record in a buffer that the caller lends, one addition at a time.
+ *
+ * For all functions:
  *  - A buffer is a pointer and its length in bytes. It needs no alignment.
- *  - The buffers of one call must not overlap.
+ *  - The buffers of one call must not overlap; the number behind a pointer fill must not lie in the body.
  *  - A null pointer is allowed where its length is 0, and is then an empty buffer: an empty state is turned back with
- *    REPLICA_NOT_A_STATE, an empty reply buffer with REPLICA_REPLY_SHORT, an empty record with REPLICA_NO_RECORD.
- *  - Calls on one state must not run at once. Calls on different states may.
+ *    REPLICA_NOT_A_STATE, an empty reply buffer with REPLICA_REPLY_SHORT, an empty record with REPLICA_NO_RECORD; in
+ *    an empty body nothing can be begun. A pointer fill is never null.
+ *  - Calls on one state or one body must not run at once. Calls on different ones may.
  *  - A call needs at most REPLICA_STACK_BYTES bytes of stack.
  */
 #ifndef REPLICA_H
@@ -27,7 +30,7 @@ extern "C" {
 
 #define REPLICA_STATE_BYTES 24768 /* a state buffer has exactly this length */
 #define REPLICA_REPLY_BYTES 3564  /* a reply buffer has at least this length; no call replies more */
-#define REPLICA_STACK_BYTES 40960 /* a call uses at most 36,624, measured by painting; rounded up to whole pages */
+#define REPLICA_STACK_BYTES 40960 /* a call used at most 36,624, measured by painting; the rest is reserve */
 
 /*
  * What replica_take returns where it turned the call back: no byte of any buffer has changed. They are tried in this
@@ -36,7 +39,7 @@ extern "C" {
 #define REPLICA_NOT_A_STATE 1   /* the state buffer does not have REPLICA_STATE_BYTES, or its bytes are not a state */
 #define REPLICA_REPLY_SHORT 2   /* the reply buffer is shorter than REPLICA_REPLY_BYTES */
 #define REPLICA_NO_RECORD 3     /* the mark is unknown, or the record's size is not 8 + its body length */
-#define REPLICA_POSITION_PAST 4 /* the record's position was taken already: drop the record */
+#define REPLICA_POSITION_PAST 4 /* the position is 0, or was taken already: drop the record */
 #define REPLICA_POSITION_GAP 5  /* a record before it is missing: hand that in first, then this one again */
 
 /*
@@ -54,8 +57,18 @@ uint64_t replica_fresh(uint8_t *state, size_t state_length);
  * is 0 where a statement waits. The record's own reply comes first, then one for each statement that it woke.
  * Else the return is one of the numbers 1 to 5 above. The record is never changed.
  *
- * A call that was cut (power lost, task stopped) may leave any bytes. Start again from replica_fresh, or from a whole
- * copy of a state that another replica held between calls.
+ *   mark  body
+ *   RV    host (1): the host is up
+ *   CR    host (1): it has crashed
+ *   MO    host (1), process (2): a new monitor number
+ *   MS    host (1), process (2), kind (1, or absent: 0 shared, 1 private to the process): opens the next space number
+ *   DS    host (1), process (2), space (1): closes the space, with its tuples
+ *   AG    a statement of at most REPLICA_BODY_BYTES, as the writer below makes them
+ *
+ * Positions go from 1 to 4,294,967,295; after the last no record is taken.
+ *
+ * A call that was cut (power lost, task stopped) may leave any bytes, even bytes that pass for a state: do not use them.
+ * Start again from replica_fresh, or from a whole copy of a state that another replica held between calls.
  */
 uint64_t replica_take(uint8_t *state, size_t state_length, const uint8_t *record, size_t record_length,
                       uint8_t *reply, size_t reply_length);
@@ -72,6 +85,9 @@ uint64_t replica_take(uint8_t *state, size_t state_length, const uint8_t *record
  *   10    1    branch that ran, from 1; 0 for other records and where none was chosen
  *   11    1    count of values
  *   12         values: variable (1), kind (1: 0 whole number, 1 name, 2 metres as f32), 4 bytes
+ *
+ * Values come with outcome 0 alone. MO and MS give their number, RV and CR the count of hosts now up, each as variable
+ * 0, a whole number; DS gives none; a statement gives its bound variables in rising number.
  */
 #define REPLICA_REPLY_HEAD 12
 #define REPLICA_REPLY_VALUE 6
@@ -93,9 +109,83 @@ uint64_t replica_take(uint8_t *state, size_t state_length, const uint8_t *record
  *   14   8 monitors, 32 open spaces, or space number 255, are used up      MO MS
  *   15   it is space 0, or a waiting statement names it                    DS
  *   16   an in or rd of the body has no match                              AG
- *   17   a sum is off the range of whole numbers, or not finite            AG
+ *   17   a sum or difference is off the range, or not finite               AG
  *   18   no guard held, and none of them waits                             AG
  */
+
+/* ---- The writer */
+
+#define REPLICA_BODY_BYTES 250 /* a legal body has at most this length; a buffer of it is never short */
+#define REPLICA_FIELDS 6       /* an operation has at most so many fields */
+
+/*
+ * What the writer's functions return: 0 where the addition is done, else one of these, tried in this order.
+ */
+#define REPLICA_MALFORMED 6  /* the addition would not leave a legal body, by the rules of outcome 6 */
+#define REPLICA_BODY_SHORT 2 /* the body would be legal, and the buffer is shorter than it */
+
+/*
+ * A field. Parts that its form does not have are not looked at. A form above 5 is REPLICA_MALFORMED.
+ *
+ *   form  parts                  what                                          allowed in
+ *    0    kind, bits             this value                                    1 to 7
+ *    1    kind, variable         any value of the kind, bound to the variable  1 to 4
+ *    2    variable               the variable's value                          1 to 7
+ *    3    variable, kind, bits   the variable's value plus this value          5
+ *    4    variable, kind, bits   the variable's value minus this value         5
+ *    5    kind                   any value of the kind                         1 to 4, 6, 7
+ *
+ * Kinds are 0 whole number, 1 name, 2 metres as f32; variables are 0 to 15. The bits are the value's four bytes as a
+ * number: (uint32_t)-1 is the whole number -1, 7 the name 7, 0x40400000 the metres 3.0. A name is at most 65,535;
+ * metres are finite and not negative zero. A variable is bound once in a branch, and used in later operations of that
+ * branch; forms 3 and 4 need it bound with their kind, which is not name.
+ */
+typedef struct {
+    uint8_t form, kind, variable;
+    uint32_t bits;
+} replica_field;
+
+/*
+ * An addition: a guard or an operation. Parts that its code does not have and fields past the count are not looked at.
+ *
+ *   code       parts                     as
+ *    0 true    none                      guard
+ *    1 in      from, count 1 to 6        guard, operation
+ *    2 inp     from, count 1 to 6        guard
+ *    3 rd      from, count 1 to 6        guard, operation
+ *    4 rdp     from, count 1 to 6        guard
+ *    5 out     from, count 1 to 6        operation
+ *    6 move    from, to, count 0 to 6    operation
+ *    7 copy    from, to, count 0 to 6    operation
+ *
+ * from is the space of codes 1 to 5. Any other code, a space above 255 or another count is REPLICA_MALFORMED.
+ */
+typedef struct {
+    uint8_t code;
+    uint16_t from, to;
+    size_t count;
+    replica_field fields[REPLICA_FIELDS];
+} replica_addition;
+
+/*
+ * replica_begin begins a body: host (0 to 15), process, and a first branch with this guard and no operation yet. What
+ * *fill was is not looked at. replica_operation adds an operation at the end of the last branch, which has at most 8.
+ * replica_branch adds a branch with this guard and no operation yet; there are at most 4.
+ *
+ * *fill is the count of filled bytes, which stand at the start of the buffer and are a legal body. Where the return is
+ * 0, it is the new count, and the bytes past it have not changed. Else no byte of the body has changed; *fill has not
+ * changed either, but for replica_begin, which then leaves it 0.
+ *
+ * Between calls the bytes and *fill are the caller's: a *fill past the buffer's length, or filled bytes that are not a
+ * legal body (as after a refused replica_begin), are REPLICA_MALFORMED.
+ *
+ * The record is 'A', 'G', the fill (2 bytes), the position (4 bytes), then the filled bytes. A body that is begun 8
+ * bytes from the start of the record's buffer need not be copied. replica_take never answers it with outcome 6.
+ */
+uint64_t replica_begin(uint8_t *body, size_t body_length, size_t *fill, uint8_t host, uint16_t process,
+                       replica_addition guard);
+uint64_t replica_operation(uint8_t *body, size_t body_length, size_t *fill, replica_addition operation);
+uint64_t replica_branch(uint8_t *body, size_t body_length, size_t *fill, replica_addition guard);
 
 #ifdef __cplusplus
 }

@@ -12,3 +12,4 @@ pub mod rows;
 pub mod stack;
 pub mod states;
 pub mod streams;
+pub mod writer;

@@ -1,4 +1,25 @@
-//! The two functions of the library, as `include/replica.h` declares them.
+//! The functions of the library, as `include/replica.h` declares them.
+
+/// A field of an addition.
+#[repr(C)]
+#[derive(Clone, Copy, Debug, Default, PartialEq, Eq)]
+pub struct Field {
+    pub form: u8,
+    pub kind: u8,
+    pub variable: u8,
+    pub bits: u32,
+}
+
+/// A guard or an operation.
+#[repr(C)]
+#[derive(Clone, Copy, Debug, Default, PartialEq, Eq)]
+pub struct Addition {
+    pub code: u8,
+    pub from: u16,
+    pub to: u16,
+    pub count: usize,
+    pub fields: [Field; 6],
+}
 
 extern "C" {
     pub fn replica_fresh(state: *mut u8, state_length: usize) -> u64;
@@ -10,6 +31,17 @@ extern "C" {
         reply: *mut u8,
         reply_length: usize,
     ) -> u64;
+    pub fn replica_begin(
+        body: *mut u8,
+        body_length: usize,
+        fill: *mut usize,
+        host: u8,
+        process: u16,
+        guard: Addition,
+    ) -> u64;
+    pub fn replica_operation(body: *mut u8, body_length: usize, fill: *mut usize, operation: Addition)
+        -> u64;
+    pub fn replica_branch(body: *mut u8, body_length: usize, fill: *mut usize, guard: Addition) -> u64;
 }
 
 /// The fresh-state call and the call for a record, of the library or of a stand-in.

@@ -1,7 +1,8 @@
-//! Stack used by the fresh-state call, by the rows and by generated calls.
+//! Stack used by the fresh-state call, by the rows, by generated calls and by the writer.
 
 use crate::rows;
 use crate::stack::Stack;
+use crate::writer::{chain, Desk};
 use reference::generate::Stream;
 
 /// More than any call may use.
@@ -43,10 +44,31 @@ pub fn generated(seed: u64, streams: u64) -> usize {
     most
 }
 
+/// The most that an addition uses, with the 64 bytes by which it is handed in.
+pub fn writer(seed: u64, chains: u64) -> usize {
+    let mut stack = Stack::new(ROOM);
+    let mut most = 0;
+    let mut desk = Desk::new(|body: &mut [u8], fill: &mut usize, call, addition| {
+        let (before, filled) = (body.to_vec(), *fill);
+        let mut answer = 0;
+        let used = stack.used(|stack| {
+            body.copy_from_slice(&before);
+            *fill = filled;
+            answer = stack.write(body, fill, call, addition);
+        });
+        most = most.max(used);
+        answer
+    });
+    for number in 0..chains {
+        chain(seed, number, &mut desk).unwrap_or_else(|fault| panic!("{fault}"));
+    }
+    most
+}
+
 /// The most of all of them.
 pub fn most(seed: u64, streams: u64) -> usize {
     let rows = rows().into_iter().map(|(_, used)| used).max().unwrap_or(0);
-    fresh().max(rows).max(generated(seed, streams))
+    fresh().max(rows).max(generated(seed, streams)).max(writer(seed, streams / 10))
 }
 
 /// Makes the same calls on a stack of exactly these bytes, below which no byte may be touched.
@@ -57,5 +79,11 @@ pub fn run_within(bytes: usize) {
         for state in &row.states {
             stack.take(&mut state.clone(), &row.record, &mut vec![0; row.reply_length]);
         }
+    }
+    let mut desk = Desk::new(|body: &mut [u8], fill: &mut usize, call, addition| {
+        stack.write(body, fill, call, addition)
+    });
+    for number in 0..10 {
+        chain(1, number, &mut desk).unwrap_or_else(|fault| panic!("{fault}"));
     }
 }

@@ -1,7 +1,10 @@
 //! The stack that a call needs, measured by painting it: the call runs on memory of its own, above a page
 //! that nobody may touch.
 
-use crate::library::{replica_fresh, replica_take};
+use crate::library::{
+    replica_begin, replica_branch, replica_fresh, replica_operation, replica_take, Addition,
+};
+use crate::writer::Call;
 use std::arch::asm;
 use std::ffi::{c_int, c_void};
 
@@ -40,9 +43,15 @@ impl Stack {
         unsafe { std::slice::from_raw_parts_mut(self.map.add(PAGE), self.bytes) }
     }
 
-    /// Calls a function of six words with its stack here, from the top down.
-    fn call(&mut self, function: usize, words: [usize; 6]) -> u64 {
-        let top = unsafe { self.map.add(PAGE + self.bytes) };
+    /// Calls a function of six words, and of an addition by value, with its stack here, from the top down.
+    fn call(&mut self, function: usize, words: [usize; 6], addition: Option<Addition>) -> u64 {
+        let mut top = unsafe { self.map.add(PAGE + self.bytes) };
+        if let Some(addition) = addition {
+            unsafe {
+                top = top.sub(size_of::<Addition>());
+                top.cast::<Addition>().write(addition);
+            }
+        }
         let returned: u64;
         unsafe {
             asm!(
@@ -75,12 +84,23 @@ impl Stack {
             reply.as_mut_ptr() as usize,
             reply.len(),
         ];
-        self.call(replica_take as *const () as usize, words)
+        self.call(replica_take as *const () as usize, words, None)
     }
 
     pub fn fresh(&mut self, state: &mut [u8]) -> u64 {
         let words = [state.as_mut_ptr() as usize, state.len(), 0, 0, 0, 0];
-        self.call(replica_fresh as *const () as usize, words)
+        self.call(replica_fresh as *const () as usize, words, None)
+    }
+
+    pub fn write(&mut self, body: &mut [u8], fill: &mut usize, call: Call, addition: Addition) -> u64 {
+        let (function, host, process) = match call {
+            Call::Begin { host, process } => (replica_begin as *const (), host, process),
+            Call::Operation => (replica_operation as *const (), 0, 0),
+            Call::Branch => (replica_branch as *const (), 0, 0),
+        };
+        let fill: *mut usize = fill;
+        let words = [body.as_mut_ptr() as usize, body.len(), fill as usize, host.into(), process.into(), 0];
+        self.call(function as usize, words, Some(addition))
     }
 
     /// The bytes that a call writes to, with its return address, by painting with both colours.

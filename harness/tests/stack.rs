@@ -22,4 +22,5 @@ fn calls_run_on_a_stack_of_that_size() {
 fn the_header_has_the_sizes() {
     assert_eq!(defined("REPLICA_STATE_BYTES"), 24_768);
     assert_eq!(defined("REPLICA_REPLY_BYTES"), 3_564);
+    assert_eq!(defined("REPLICA_BODY_BYTES"), 250);
 }

@@ -2,7 +2,7 @@
 use mathlib.Core.Path.{_≡_, refl, sym, ap, subst, _∙_}
 use Prim.Native.Nat.{ℕ, suc, _≤_}
 use native.Mathlib.Omega.{arith}
-use mathlib.Core.Bool.{true, cond}
+use mathlib.Core.Bool.{Bool, true, cond, not}
 use mathlib.Core.Option.{Option, none, some, Option·some-injective}
 use mathlib.Core.List.{List, [], _∷_, _++_, map, List·Memᴰ, List·Memᴰ·head, List·Memᴰ·tail}
 use lib.ListN.{length, take, drop, getD}
@@ -11,12 +11,12 @@ use lib.Dec.{T, eqb}
 use lib.Pow.{areBytes}
 use Rattle.basis.specs.Choice.{maybe, firstNumber}
 use Rattle.basis.specs.Logic.{is-true, and-l, and-r}
-use Rattle.basis.specs.Lists.{all, zeros}
+use Rattle.basis.specs.Lists.{all, any, keep, zeros}
 use Rattle.basis.specs.ListLaws.{each-nil, each-cons}
 use Rattle.basis.specs.Sizes.{replySize, stateSize}
 use Rattle.model.specs.Statement.{Statement}
-use Rattle.model.specs.Run.{Run, fresh, withLast, withWaiting, Turn}
-use Rattle.model.specs.Step.{RV, AG, Record, recordOf, Request, recover, crash, monitor, openSpace, closeSpace, guarded, requestOf, checks, askingHost, askingProcess, refused, malformed, effect, settled, step}
+use Rattle.model.specs.Run.{Waiting, Run, fresh, withLast, withWaiting, Reply, Turn}
+use Rattle.model.specs.Step.{RV, CR, AG, Record, recordOf, Request, recover, crash, monitor, openSpace, closeSpace, guarded, requestOf, checks, askingHost, askingProcess, refused, malformed, effect, settled, step}
 use Rattle.model.specs.Sound.{Sound}
 use Rattle.model.specs.Preserve.{fresh-sound}
 use Rattle.layout.specs.Replies.{repliesBytes}
@@ -368,3 +368,66 @@ inert l = answer 0 (l .state) (l .reply)
 pub inert-differs : inert first-call ≡ takeCall first-call → ⊥
 unfolding inert
 inert-differs e = let c : _≡_ {A = ℕ} 0 18 = ap (λ (a : Answer). a .returned) e ∙ first-count in omega arith
+
+-- ---- a program that answers the statements that a crash drops: "drops that host's waiting statements without reply"
+
+-- at 2, process 5: in(0, name 7), which waits; at 3: CR 2
+abbrev pub waits2 : Bytes
+waits2 = 65 ∷ 71 ∷ 0 ∷ 14 ∷ 0 ∷ 0 ∷ 0 ∷ 2 ∷ 2 ∷ 0 ∷ 5 ∷ 1 ∷ 1 ∷ 0 ∷ 1 ∷ 0 ∷ 1 ∷ 0 ∷ 0 ∷ 0 ∷ 7 ∷ 0 ∷ []
+
+abbrev pub crash3 : Bytes
+crash3 = 67 ∷ 82 ∷ 0 ∷ 1 ∷ 0 ∷ 0 ∷ 0 ∷ 3 ∷ 2 ∷ []
+
+-- each that waited before and does not wait after is answered 18
+pub answersDropped : Run → Record → Turn
+answersDropped s r =
+    let t = step s r in
+    let left : Waiting → Bool = λ w. not (any (λ v. eqb (v .position) (w .position)) (t .run .waiting)) in
+    let answered : Waiting → Reply = λ w. record { position = w .position; host = w .statement .host; process = w .statement .process; outcome = 18; branch = 0; values = [] } in
+    record { run = t .run; replies = t .replies ++ map answered (keep left (s .waiting)) }
+
+item-waits : Record
+item-waits = record { mark = AG; position = 2; body = drop 8 waits2 }
+
+item-crash : Record
+item-crash = record { mark = CR; position = 3; body = drop 8 crash3 }
+
+run2 : Run
+run2 = (step run1 item-waits) .run
+
+read-waits : recordOf waits2 ≡ some item-waits
+unfolding computes item-waits
+read-waits = refl
+
+number-waits : numberOf waits2 ≡ some 2
+unfolding computes
+number-waits = refl
+
+step2 : stepBytes run1 waits2 ≡ step run1 item-waits
+unfolding stepBytes
+step2 = rw read-waits
+
+run2-sound : Sound run2
+unfolding run2
+run2-sound = subst (λ (t : Turn). Sound (t .run)) step2 (stepBytes-sound run1 waits2 run1-sound tt (rw last1 number-waits))
+
+read-crash : recordOf crash3 ≡ some item-crash
+unfolding computes item-crash
+read-crash = refl
+
+passes-crash : refusalAt (run2 .last) crash3 (zeros replySize) ≡ none
+unfolding computes run2 item-waits run1 item1
+passes-crash = refl
+
+pub third-call : Lent
+third-call = record { state = encode run2; input = crash3; reply = zeros replySize }
+
+third-returned : (work : Run → Record → Turn) → (callBy work third-call) .returned ≡ length (repliesBytes ((work run2 item-crash) .replies))
+unfolding third-call
+third-returned work = ap (λ (a : Answer). a .returned) (does-work work run2 third-call item-crash run2-sound refl read-crash passes-crash)
+
+pub dropped-differs : callBy answersDropped third-call ≡ takeCall third-call → ⊥
+unfolding computes answersDropped item-crash item-waits run2 run1 item1
+dropped-differs e =
+    let n : _≡_ {A = ℕ} 30 18 = sym (third-returned answersDropped) ∙ ap (λ (a : Answer). a .returned) (e ∙ sym (callBy-step third-call)) ∙ third-returned step in
+    omega arith

@@ -14,17 +14,6 @@ ghost use Rattle.checks.specs.HeaderLaws.{Counts};
 ghost use Rattle.checks.specs.TupleLaws.{sectionOf};
 ghost use Rattle.checks.specs.WaitingLaws.{Shape};
 
-// Where a body has its process.
-const PROCESS_AT: usize = 1;
-
-// Where a waiting statement has the length of its body.
-const LENGTH_AT: usize = 4;
-
-// Where a space entry has its kind and its owner.
-const KIND_AT: usize = 1;
-
-const OWNER_AT: usize = 2;
-
 // A byte for each space number.
 const TABLE: usize = words::SPACE_NUMBERS as usize;
 
@@ -117,7 +106,7 @@ fn space_ok(b: &[u8], i: usize) -> bool
     if b[next] <= b[at] {
         return false;
     }
-    access_ok(b, next + KIND_AT)
+    access_ok(b, next + words::SPACE_KIND_AT)
 }
 
 // The open spaces: space 0, which is shared, first, rising to below the next number.
@@ -145,8 +134,8 @@ fn access_code(b: &[u8], at: usize) -> u32
     requires { ⌜ at + 4 ≤ length (now b) ⌝ }
     ensures { λ r. ⌜ r ≡ codeAt (now (b .entry)) at ⌝ }
 {
-    if b[at + KIND_AT] == 1 {
-        return 2 + words::word2(b, at + OWNER_AT) as u32;
+    if b[at + words::SPACE_KIND_AT] == 1 {
+        return 2 + words::word2(b, at + words::SPACE_OWNER_AT) as u32;
     }
     1
 }
@@ -227,7 +216,10 @@ fn body_length(b: &[u8], i: usize) -> usize
     requires { ⌜ (length (now b) ≡ stateSize) × (i < mostWaiting) ⌝ }
     ensures { λ r. ⌜ r ≡ lengthOf (now (b .entry)) i ⌝ }
 {
-    words::word2(b, words::WAITING_AT + i * words::WAITING + LENGTH_AT) as usize
+    words::word2(
+        b,
+        words::WAITING_AT + i * words::WAITING + words::WAITING_LENGTH_AT,
+    ) as usize
 }
 
 // "waiting by position", "each waiting body is legal" and "All unused bytes are zero", of the entry at index i.
@@ -257,7 +249,7 @@ fn process_at(b: &[u8], i: usize) -> u16
 {
     words::word2(
         b,
-        words::WAITING_AT + i * words::WAITING + words::WAITING_BODY_AT + PROCESS_AT,
+        words::WAITING_AT + i * words::WAITING + words::WAITING_BODY_AT + words::PROCESS_AT,
     )
 }
 

@@ -16,12 +16,11 @@ use Rattle.basis.specs.PadLaws.{pad-split, zeros-length, rows-length}
 use Rattle.basis.specs.NumberLaws.{bigEndian-length}
 use Rattle.basis.specs.Numbers.{bigEndian}
 use Rattle.basis.specs.Sizes.{spaceWidth, spaceNumbers, mostFields, valueSize, tupleSize}
-use Rattle.model.specs.Value.{Value, value, legalValue, plus, minus}
+use Rattle.model.specs.Value.{Value, value, legalValue}
 use Rattle.model.specs.Statement as Model
 use Rattle.model.specs.Statement.{actual, formal, reference, sum, difference, anonymous}
 use Rattle.model.specs.Writing.{valueBytes}
 use Rattle.model.specs.Matching.{Tuple, Bindings, valueOf}
-use Rattle.model.specs.SumLaws.{plus-legal, minus-legal}
 use Rattle.model.specs.Execution.{made, madeAll}
 use Rattle.layout.specs.States.{tupleBytes}
 use Rattle.layout.specs.StateLaws.{value-wide}
@@ -29,7 +28,7 @@ use Rattle.words.specs.Over.{over}
 use Rattle.words.specs.OverLaws.{over-split}
 use Rattle.values.specs.Meaning.{sumOf}
 use Rattle.statements.specs.declared.Field.{Field}
-use Rattle.statements.specs.Flat.{fieldOf, fieldIs, fieldsAre}
+use Rattle.statements.specs.Flat.{fieldOf, fieldIs}
 use Rattle.tuples.specs.Section.{entryBytes}
 use Rattle.tuples.specs.Rows.{zeros-add, rows-append, over-mid}
 
@@ -50,11 +49,6 @@ CanMake bs (reference x) = Unit {0}
 CanMake bs (sum x v) = Summable bs x v
 CanMake bs (difference x v) = Summable bs x v
 CanMake bs (anonymous k) = Unit {0}
-
--- a sum is legal
-pub sum-legal : (subtract : Bool) (k a b : ℕ) (v : Value) → T (legalValue (value k a)) → T (legalValue (value k b)) → sumOf subtract k a b ≡ some v → T (legalValue v)
-sum-legal true k a b v l m e = minus-legal k a b v l m e .0
-sum-legal false k a b v l m e = plus-legal k a b v l m e .0
 
 -- with the bits that the variable holds
 module _ (bs : Bindings) (x : ℕ) (v : Value) (k n : ℕ) (held : value k n ≡ valueOf bs x) where

@@ -35,14 +35,6 @@ use tuples::Found;
 use tuples::Template;
 use values::Sum;
 
-// Where the branch count of a body and its first branch stand, after host and process.
-const BRANCH_COUNT_AT: usize = 3;
-
-const BRANCHES_AT: usize = 4;
-
-// Where the values of a tuple stand in its entry, after space and field count.
-const VALUES_AT: usize = 2;
-
 // The section of tuples.
 const TUPLES: usize = words::MOST_TUPLES * words::TUPLE;
 
@@ -54,7 +46,7 @@ pub struct Vars {
 }
 
 // A kind and, where one is given, the bits of a value.
-pub struct Sought {
+struct Sought {
     pub kind: u8,
     pub given: bool,
     pub bits: u32,
@@ -153,7 +145,7 @@ fn bind_at(tuples: &[u8], i: usize, op: Operation, v: Vars) -> Vars
     let n = op.count;
     let mut j = 0;
     while j < n {
-        let at = i * words::TUPLE + VALUES_AT + j * words::VALUE;
+        let at = i * words::TUPLE + words::TUPLE_VALUES_AT + j * words::VALUE;
         w = bind_field(w, op.fields[j], tuples[at], words::word4(tuples, at + 1));
         j += 1;
     }
@@ -213,7 +205,7 @@ fn put_value(d: &mut [u8], at: usize, kind: u8, bits: u32)
 }
 
 // An out's tuple, where it can be made: its entry's bytes.
-pub struct Made {
+struct Made {
     pub ok: bool,
     pub tuple: [u8; words::TUPLE],
 }
@@ -233,14 +225,19 @@ fn make_tuple(op: Operation, v: Vars) -> Made
         if !x.given {
             return Made { ok: false, tuple };
         }
-        put_value(&mut tuple, VALUES_AT + j * words::VALUE, x.kind, x.bits);
+        put_value(
+            &mut tuple,
+            words::TUPLE_VALUES_AT + j * words::VALUE,
+            x.kind,
+            x.bits,
+        );
         j += 1;
     }
     Made { ok: true, tuple }
 }
 
 // What an operation or a branch did: outcome 0, with the tuples' number and the variables after it; else the number of the failure.
-pub struct Done {
+struct Done {
     pub outcome: u8,
     pub n: usize,
     pub vars: Vars,
@@ -415,19 +412,19 @@ fn no_vars() -> Vars
 }
 
 // A branch, counted from 1, and the position of its guard; 0: none.
-pub struct Choice {
+struct Choice {
     pub branch: u8,
     pub at: usize,
 }
 
 // Rule 2: "The branch search stops at the first branch whose guard finds a tuple or is true".
-pub fn search(tuples: &[u8], n: usize, body: &[u8]) -> Choice
+fn search(tuples: &[u8], n: usize, body: &[u8]) -> Choice
     requires { ⌜ (length (now tuples) ≡ tuplesSize) × (n ≤ mostTuples) × T (legalBody (now body)) ⌝ }
     ensures { λ r. ⌜ Chooses (now (body .entry)) (chosen (tuplesOf (now (tuples .entry)) n) (statementOf (now (body .entry)))) (r .branch) (r .at) ⌝ }
 {
-    let count = body[BRANCH_COUNT_AT];
+    let count = body[words::BRANCH_COUNT_AT];
     let mut branch = 0;
-    let mut at = BRANCHES_AT;
+    let mut at = words::BRANCHES_AT;
     let mut i = 0;
     'branches: while i < count {
         let guard = read_operation(body, at);
@@ -465,8 +462,8 @@ pub fn can_wait(body: &[u8]) -> bool
     requires { ⌜ T (legalBody (now body)) ⌝ }
     ensures { λ r. ⌜ r ≡ canWait (statementOf (now (body .entry))) ⌝ }
 {
-    let count = body[BRANCH_COUNT_AT];
-    let mut at = BRANCHES_AT;
+    let count = body[words::BRANCH_COUNT_AT];
+    let mut at = words::BRANCHES_AT;
     let mut i = 0;
     while i < count {
         let guard = read_operation(body, at);

@@ -21,12 +21,14 @@ ghost use Rattle.refusals.specs.Names.{naming};
 ghost use Rattle.refusals.specs.Refusal.{refusal, usedUp, closing};
 use statements::Operation;
 use statements::read_operation;
+use words::BRANCH_COUNT_AT;
 use words::MASK_AT;
 use words::MONITORS_AT;
 use words::MOST_MONITORS;
 use words::MOST_SPACES;
 use words::MOST_TUPLES;
 use words::NEXT_AT;
+use words::PROCESS_AT;
 use words::SPACE;
 use words::SPACE_COUNT_AT;
 use words::SPACE_NUMBERS;
@@ -36,25 +38,17 @@ use words::WAITING;
 use words::WAITING_AT;
 use words::WAITING_BODY_AT;
 use words::WAITING_COUNT_AT;
+use words::WAITING_LENGTH_AT;
 use words::size;
 use words::word2;
 
-// Where a body has its process.
-const PROCESS_AT: usize = 1;
-
-// Where a waiting statement has the length of its body.
-const LENGTH_AT: usize = 4;
-
 // A byte for each space number.
-const TABLE: usize = 256;
-
-// Where a body has the count of its branches.
-const BRANCHES_AT: usize = 3;
+const TABLE: usize = words::SPACE_NUMBERS as usize;
 
 // ---- the host and the process that ask
 
 // Whether a host is up.
-pub fn host_is_up(state: &[u8], host: u8) -> bool
+fn host_is_up(state: &[u8], host: u8) -> bool
     requires { ⌜ IsStored (now state) × (host < hosts) ⌝ }
     ensures { λ r. ⌜ r ≡ hostUp (decode (now (state .entry))) host ⌝ }
 {
@@ -62,7 +56,7 @@ pub fn host_is_up(state: &[u8], host: u8) -> bool
 }
 
 // Whether a process waits: the bodies of the waiting statements have theirs at one place.
-pub fn process_waits(state: &[u8], process: u16) -> bool
+fn process_waits(state: &[u8], process: u16) -> bool
     requires { ⌜ IsStored (now state) ⌝ }
     ensures { λ r. ⌜ r ≡ isWaiting (decode (now (state .entry))) process ⌝ }
 {
@@ -140,7 +134,7 @@ fn is_marked(table: &[u8], want: u8, space: u16) -> bool
 }
 
 // Whether a space is open.
-pub fn space_open(state: &[u8], space: u16) -> bool
+fn space_open(state: &[u8], space: u16) -> bool
     requires { ⌜ IsStored (now state) × (space < spaceNumbers) ⌝ }
     ensures { λ r. ⌜ r ≡ isOpen (decode (now (state .entry)) .spaces) space ⌝ }
 {
@@ -150,7 +144,7 @@ pub fn space_open(state: &[u8], space: u16) -> bool
 }
 
 // Whether a space is private to another process.
-pub fn space_denied(state: &[u8], process: u16, space: u16) -> bool
+fn space_denied(state: &[u8], process: u16, space: u16) -> bool
     requires { ⌜ IsStored (now state) × (space < spaceNumbers) ⌝ }
     ensures { λ r. ⌜ r ≡ isDenied (decode (now (state .entry)) .spaces) process space ⌝ }
 {
@@ -225,8 +219,8 @@ pub fn some_named(body: &[u8], table: &[u8], want: u8) -> bool
     requires { ⌜ T (legalBody (now body)) ⌝ }
     ensures { λ r. ⌜ r ≡ any (marked (now (table .entry)) want) (spacesNamed (statementOf (now (body .entry)))) ⌝ }
 {
-    let mut left = body[BRANCHES_AT];
-    let mut end = BRANCHES_AT + 1;
+    let mut left = body[BRANCH_COUNT_AT];
+    let mut end = BRANCH_COUNT_AT + 1;
     while 0 < left {
         let next = pass_branch(body, end, table, want);
         if next == 0 {
@@ -281,7 +275,7 @@ fn waiting_names(state: &[u8], i: usize, table: &[u8]) -> bool
 {
     let at = WAITING_AT + i * WAITING;
     let from = at + WAITING_BODY_AT;
-    let end = from + word2(state, at + LENGTH_AT) as usize;
+    let end = from + word2(state, at + WAITING_LENGTH_AT) as usize;
     some_named(&state[from..end], table, 1)
 }
 
@@ -302,7 +296,7 @@ fn some_waiting_names(state: &[u8], table: &[u8]) -> bool
 }
 
 // Whether some waiting statement names a space.
-pub fn named_by_waiting(state: &[u8], space: u16) -> bool
+fn named_by_waiting(state: &[u8], space: u16) -> bool
     requires { ⌜ IsStored (now state) × (space < spaceNumbers) ⌝ }
     ensures { λ r. ⌜ r ≡ someWaitingNames (decode (now (state .entry))) space ⌝ }
 {

@@ -14,11 +14,8 @@ ghost use Rattle.calls.specs.Calls.{numberOf, stepBytes};
 ghost use Rattle.replies.specs.Written.{headSize, mostReply};
 ghost use Rattle.steps.specs.Requests.{fromHost, markNumber, markAt, asked, Later};
 
-// Where a body has its process.
-const PROCESS_AT: usize = 1;
-
 // Where MS has its kind, and DS its space.
-const AFTER_PROCESS: usize = PROCESS_AT + 2;
+const AFTER_PROCESS: usize = words::PROCESS_AT + 2;
 
 // ---- a refusal
 
@@ -36,7 +33,13 @@ fn refuse_body(state: &[u8], body: &[u8], outcome: u8, out: &mut [u8]) -> usize
     requires { ⌜ IsStored (now state) × T (legalBody (now body)) × (headSize ≤ length (now out)) ⌝ }
     ensures { λ r. ⌜ Turned (refused (decode (now (state .entry))) ((statementOf (now (body .entry))) .host) ((statementOf (now (body .entry))) .process) outcome) (now (out .entry)) (now (state .entry)) (now (out .exit)) r ⌝ }
 {
-    refuse(state, body[0], words::word2(body, PROCESS_AT), outcome, out)
+    refuse(
+        state,
+        body[0],
+        words::word2(body, words::PROCESS_AT),
+        outcome,
+        out,
+    )
 }
 
 // ---- AG
@@ -175,7 +178,7 @@ fn ask_recover(state: &mut [u8], body: &[u8], out: &mut [u8]) -> usize
     requires { ⌜ IsStored (now state) × (replySize ≤ length (now out)) ⌝ }
     ensures { λ r. ⌜ Turned (asked RV (now (body .entry)) (decode (now (state .entry)))) (now (out .entry)) (now (state .exit)) (now (out .exit)) r ⌝ }
 {
-    if !from_host(body, PROCESS_AT) {
+    if !from_host(body, words::PROCESS_AT) {
         return malformed(state, out);
     }
     handle_recover(state, body[0], out)
@@ -186,7 +189,7 @@ fn ask_crash(state: &mut [u8], body: &[u8], out: &mut [u8]) -> usize
     requires { ⌜ IsStored (now state) × (replySize ≤ length (now out)) ⌝ }
     ensures { λ r. ⌜ Turned (asked CR (now (body .entry)) (decode (now (state .entry)))) (now (out .entry)) (now (state .exit)) (now (out .exit)) r ⌝ }
 {
-    if !from_host(body, PROCESS_AT) {
+    if !from_host(body, words::PROCESS_AT) {
         return malformed(state, out);
     }
     handle_crash(state, body[0], out)
@@ -200,7 +203,7 @@ fn ask_monitor(state: &mut [u8], body: &[u8], out: &mut [u8]) -> usize
     if !from_host(body, AFTER_PROCESS) {
         return malformed(state, out);
     }
-    handle_monitor(state, body[0], words::word2(body, PROCESS_AT), out)
+    handle_monitor(state, body[0], words::word2(body, words::PROCESS_AT), out)
 }
 
 // "`MS` host, process, kind byte (0 shared, 1 private to the process; byte absent: shared)".
@@ -209,7 +212,13 @@ fn ask_open(state: &mut [u8], body: &[u8], out: &mut [u8]) -> usize
     ensures { λ r. ⌜ Turned (asked MS (now (body .entry)) (decode (now (state .entry)))) (now (out .entry)) (now (state .exit)) (now (out .exit)) r ⌝ }
 {
     if from_host(body, AFTER_PROCESS) {
-        return handle_open(state, body[0], words::word2(body, PROCESS_AT), false, out);
+        return handle_open(
+            state,
+            body[0],
+            words::word2(body, words::PROCESS_AT),
+            false,
+            out,
+        );
     }
     if !from_host(body, AFTER_PROCESS + 1) {
         return malformed(state, out);
@@ -220,7 +229,7 @@ fn ask_open(state: &mut [u8], body: &[u8], out: &mut [u8]) -> usize
     handle_open(
         state,
         body[0],
-        words::word2(body, PROCESS_AT),
+        words::word2(body, words::PROCESS_AT),
         body[AFTER_PROCESS] == 1,
         out,
     )
@@ -237,7 +246,7 @@ fn ask_close(state: &mut [u8], body: &[u8], out: &mut [u8]) -> usize
     handle_close(
         state,
         body[0],
-        words::word2(body, PROCESS_AT),
+        words::word2(body, words::PROCESS_AT),
         body[AFTER_PROCESS],
         out,
     )

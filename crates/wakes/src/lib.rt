@@ -10,12 +10,6 @@ ghost use Rattle.replies.specs.Written.{mostReply, ranValues};
 ghost use Rattle.wakes.specs.Turned.{Further, MayRun, executed, Left, readyAt, oldestReady, wokenAt, woken};
 use engine::Ran;
 
-// Where a body has its process.
-const PROCESS_AT: usize = 1;
-
-// Where a waiting statement has the length of its body.
-const LENGTH_AT: usize = 4;
-
 // ---- a statement
 
 // Rules 2 to 5 on the tuples of a state, with their count.
@@ -46,7 +40,7 @@ pub fn run_body(state: &mut [u8], position: u32, body: &[u8], out: &mut [u8]) ->
         out,
         position,
         body[0],
-        words::word2(body, PROCESS_AT),
+        words::word2(body, words::PROCESS_AT),
         ran.outcome,
         ran.branch,
         bound,
@@ -64,7 +58,7 @@ fn is_ready(state: &[u8], i: usize) -> bool
 {
     let at = words::WAITING_AT + i * words::WAITING;
     let from = at + words::WAITING_BODY_AT;
-    let end = from + words::word2(state, at + LENGTH_AT) as usize;
+    let end = from + words::word2(state, at + words::WAITING_LENGTH_AT) as usize;
     let n = words::word2(state, words::TUPLE_COUNT_AT) as usize;
     engine::ready(
         &state[words::TUPLES_AT..words::WAITING_AT],
@@ -96,7 +90,7 @@ fn wake_at(state: &mut [u8], i: usize, out: &mut [u8]) -> usize
 {
     let at = words::WAITING_AT + i * words::WAITING;
     let position = words::word4(state, at);
-    let size = words::word2(state, at + LENGTH_AT) as usize;
+    let size = words::word2(state, at + words::WAITING_LENGTH_AT) as usize;
     let mut body = [0u8; words::MOST_BODY];
     words::copy_part(&mut body, 0, state, at + words::WAITING_BODY_AT, size);
     records::leave(state, i);

@@ -1,8 +1,8 @@
-//! Prints the bytes of stack that calls use: fresh state, rows of the benchmark, generated streams.
+//! Prints the bytes of stack that calls use: fresh state, rows of the benchmark, generated streams, the writer.
 //!
 //!     stack [STREAMS]
 
-use harness::measured::{fresh, generated, rows};
+use harness::measured::{fresh, generated, rows, writer};
 
 fn main() {
     let streams = std::env::args().nth(1).and_then(|word| word.parse().ok()).unwrap_or(1_000);
@@ -11,4 +11,5 @@ fn main() {
         println!("{used:6}  {name}");
     }
     println!("{:6}  most of {streams} generated streams", generated(1, streams));
+    println!("{:6}  most of {} chains of the writer", writer(1, streams / 10), streams / 10);
 }

@@ -1,10 +1,11 @@
 -- `engine::sum_value` meets its contract. Assumes nothing.
 use borrow.Author.Needs.{needs}
-use mathlib.Core.Path.{sym, ap, _∙_}
+use mathlib.Core.Path.{sym}
 use Rattle.model.specs.Value.{value}
-use Rattle.values.specs.Meaning.{valueIs, sumIs}
+use Rattle.values.specs.Meaning.{valueIs}
+use Rattle.values.specs.Answers as Answers
 use Rattle.engine.specs.Variables.{bindingsOf}
-use Rattle.engine.specs.Making.{sum-legal, operands, sum-given, sum-refused}
+use Rattle.engine.specs.Making.{operands, sum-given, sum-refused}
 use Rattle.engine.proofs.sum_value.Statement.{statement}
 use Rattle.engine.proofs.sum_value.Tie as tie
 
@@ -27,8 +28,8 @@ bits-of-requires c κs =
     let at = c .before .before .before .before in
     let a = at .before .before .args in
     let legal = operands (bindingsOf (a .v)) (a .f .variable) (value (a .f .kind) (a .f .bits)) (at .before .held .result .kind) (at .before .held .result .bits) (at .before .held .ensures .0) (at .before .before .pre) in
-    sum-legal (a .subtract) (a .f .kind) (at .before .held .result .bits) (a .f .bits) (valueIs (c .before .before .x .given .0 .0)) (legal .0) (legal .1)
-    (sym (at .add .ensures) ∙ ap sumIs (c .before .before .x .given .1))
+    let x = c .before .before .x .given in
+    Answers.sum-legal (a .f .kind) (at .before .held .result .bits) (a .f .bits) (a .subtract) (at .add .result) (at .add .ensures) (x .0 .0) (x .1) (legal .0) (legal .1) .0
 
 enum-told : tie.Need-enum-told
 enum-told c = search needs
@@ -37,15 +38,17 @@ returns : tie.Need-returns
 returns c =
     let at = c .before .before .before .before .before in
     let a = at .before .before .args in
+    let x = c .before .before .before .x .given in
+    let is = Answers.sum-is (a .f .kind) (at .before .held .result .bits) (a .f .bits) (a .subtract) (at .add .result) (at .add .ensures) (x .0 .0) (x .1) in
     sum-given (bindingsOf (a .v)) (a .f .variable) (value (a .f .kind) (a .f .bits)) (at .before .held .result .kind) (at .before .held .result .bits) (at .before .held .ensures .0) (a .subtract)
-    (valueIs (c .before .before .before .x .given .0 .0)) (c .before .kind-of .result) (c .bits-of .result) (ap sumIs (sym (c .before .before .before .x .given .1)) ∙ at .add .ensures) (c .before .kind-of .ensures) (c .bits-of .ensures)
+    (valueIs (x .0 .0)) (c .before .kind-of .result) (c .bits-of .result) (sym is) (c .before .kind-of .ensures) (c .bits-of .ensures)
 
 returns-2 : tie.Need-returns-2
 returns-2 c =
     let at = c .before .before in
     let a = at .before .before .args in
     sum-refused (bindingsOf (a .v)) (a .f .variable) (value (a .f .kind) (a .f .bits)) (at .before .held .result .kind) (at .before .held .result .bits) (at .before .held .ensures .0) (a .subtract)
-    (ap sumIs (sym (c .enum-told .given .1)) ∙ at .add .ensures)
+    (sym (Answers.sum-refused (a .f .kind) (at .before .held .result .bits) (a .f .bits) (a .subtract) (at .add .result) (at .add .ensures) (c .enum-told .given .1)))
 
 pub sum-value-spec : {M : Type 1} → statement M
 sum-value-spec =

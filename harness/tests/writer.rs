@@ -1,0 +1,440 @@
+//! The writer's functions: the second implementation's answers over random additions, and values written out.
+
+use harness::hex::{hex, unhex};
+use harness::library::{replica_begin, replica_operation, Addition, Field};
+use harness::writer::{bytes, chain, library, reference, Body, Call, Desk};
+use std::mem::offset_of;
+use std::ptr::null_mut;
+
+const SEED: u64 = 5;
+const CHAINS: u64 = 3_000;
+const BEGIN: Call = Call::Begin { host: 2, process: 5 };
+
+// ---- Random additions ----
+
+/// Every answer of each function comes up, and both kinds of records.
+#[test]
+fn random_additions() {
+    let mut desk = Desk::new(library);
+    for number in 0..CHAINS {
+        chain(SEED, number, &mut desk).unwrap_or_else(|fault| panic!("{fault}"));
+    }
+    let counts = desk.counts;
+    for (name, [done, malformed, short]) in ["begin", "operation", "branch"].iter().zip(counts.answers) {
+        println!("{name:9}  0: {done:6}  6: {malformed:6}  2: {short:6}");
+    }
+    println!("records of filled bytes {}, of refused additions {}", counts.records[0], counts.records[1]);
+    assert_eq!(counts.most, [250, 4, 8], "bytes, branches, operations");
+    assert!(counts.sum() >= 200_000, "{} additions", counts.sum());
+    assert!(counts.answers.iter().flatten().chain(&counts.records).all(|count| *count > 0), "{counts:?}");
+}
+
+// ---- Values written out ----
+
+type Write = fn(&mut [u8], &mut usize, Call, Addition) -> u64;
+
+fn field(form: u8, kind: u8, variable: u8, bits: u32) -> Field {
+    Field { form, kind, variable, bits }
+}
+
+fn addition(code: u8, from: u16, to: u16, fields: &[Field]) -> Addition {
+    let mut addition = Addition { code, from, to, count: fields.len(), ..Addition::default() };
+    addition.fields[..fields.len()].copy_from_slice(fields);
+    addition
+}
+
+fn always() -> Addition {
+    addition(0, 0, 0, &[])
+}
+
+/// out(0, so many times the whole number 0).
+fn out(count: usize) -> Addition {
+    addition(5, 0, 0, &vec![field(0, 0, 0, 0); count])
+}
+
+/// A buffer, its fill, and the comparison.
+struct Page {
+    desk: Desk<Write>,
+    buffer: Vec<u8>,
+    body: Body,
+}
+
+impl Page {
+    fn new(length: usize) -> Page {
+        let buffer = (0..length).map(|at| (at * 37 + 11) as u8).collect();
+        Page { desk: Desk::new(library), buffer, body: Body::default() }
+    }
+
+    /// A body that is begun with the guard true.
+    fn begun(length: usize) -> Page {
+        let mut page = Page::new(length);
+        page.expect(BEGIN, always(), 0);
+        page
+    }
+
+    /// The addition has this answer; where it is done, it stays.
+    fn expect(&mut self, call: Call, addition: Addition, answer: u64) {
+        assert_eq!(self.desk.add(&self.body, call, &addition, &self.buffer), Ok(answer), "{addition:?}");
+        if let Some(body) = self.body.with(call, &addition).filter(|_| answer == 0) {
+            self.buffer[..body.bytes.len()].copy_from_slice(&body.bytes);
+            self.body = body;
+        }
+    }
+
+    fn expect_body(&self, body: &str) {
+        assert_eq!(hex(&self.body.bytes), hex(&unhex(body)));
+    }
+}
+
+/// As a C compiler lays the header's structs out on x86-64.
+#[test]
+fn the_layout_of_an_addition() {
+    let field = [offset_of!(Field, form), offset_of!(Field, kind), offset_of!(Field, variable)];
+    assert_eq!((field, offset_of!(Field, bits), size_of::<Field>()), ([0, 1, 2], 4, 8));
+    let spaces = [offset_of!(Addition, from), offset_of!(Addition, to)];
+    assert_eq!((offset_of!(Addition, code), spaces), (0, [2, 4]));
+    assert_eq!((offset_of!(Addition, count), offset_of!(Addition, fields)), (8, 16));
+    assert_eq!(size_of::<Addition>(), 64);
+}
+
+#[test]
+fn a_begun_body_has_6_bytes() {
+    let mut buffer = [0xAA; 8];
+    let mut fill = 12_345;
+    let returned = unsafe { replica_begin(buffer.as_mut_ptr(), 8, &mut fill, 2, 6, always()) };
+    assert_eq!((returned, fill), (0, 6));
+    assert_eq!(buffer, [2, 0, 6, 1, 0, 0, 0xAA, 0xAA]);
+}
+
+#[test]
+fn the_papers_statements() {
+    let name = field(0, 1, 0, 7);
+    let mut page = Page::new(250);
+    page.expect(BEGIN, addition(1, 0, 0, &[name, field(1, 0, 0, 0)]), 0);
+    page.expect(Call::Operation, addition(5, 0, 0, &[name, field(3, 0, 0, 1)]), 0);
+    page.expect_body(
+        "02 0005 01 01 00 02 00 01 00000007 01 00 00 01 05 00 02 00 01 00000007 03 00 00 00000001",
+    );
+    assert_eq!(page.body.bytes.len(), 33);
+    page.expect(Call::Begin { host: 2, process: 6 }, always(), 0);
+    page.expect(Call::Operation, addition(5, 0, 0, &[name, field(0, 0, 0, 41)]), 0);
+    page.expect_body("02 0006 01 00 01 05 00 02 00 01 00000007 00 00 00000029");
+}
+
+#[test]
+fn every_form_and_both_spaces() {
+    let mut page = Page::new(250);
+    let binds: Vec<Field> = (0..3).map(|kind| field(1, kind, kind + 10, 0xDEAD)).collect();
+    page.expect(BEGIN, addition(3, 255, 9, &binds), 0);
+    let uses = [field(2, 9, 11, 3), field(4, 2, 12, 0x3F80_0000), field(3, 0, 10, 0xFFFF_FFFF)];
+    page.expect(Call::Operation, addition(5, 1, 999, &uses), 0);
+    page.expect(Call::Operation, addition(6, 1, 255, &[field(5, 2, 77, 7)]), 0);
+    page.expect(Call::Operation, addition(7, 0, 1, &[]), 0);
+    page.expect(Call::Branch, always(), 0);
+    let first = "03 FF 03 01 00 0A 01 01 0B 01 02 0C 03";
+    let out = "05 01 03 02 0B 04 0C 02 3F800000 03 0A 00 FFFFFFFF";
+    page.expect_body(&format!("02 0005 02 {first} {out} 06 01 FF 01 05 02 07 00 01 00 00 00"));
+}
+
+/// What the guard true does not have is not looked at.
+#[test]
+fn parts_that_are_not_there() {
+    let junk = Addition { from: 999, to: 999, count: usize::MAX, fields: [field(9, 9, 99, 9); 6], code: 0 };
+    let mut page = Page::new(6);
+    page.expect(BEGIN, junk, 0);
+    page.expect_body("02 0005 01 00 00");
+}
+
+#[test]
+fn the_ninth_operation() {
+    let mut page = Page::begun(250);
+    for _ in 0..8 {
+        page.expect(Call::Operation, addition(7, 0, 0, &[]), 0);
+    }
+    page.expect(Call::Operation, addition(7, 0, 0, &[]), 6);
+    page.expect(Call::Branch, always(), 0);
+    page.expect(Call::Operation, addition(7, 0, 0, &[]), 0);
+}
+
+#[test]
+fn the_fifth_branch() {
+    let mut page = Page::begun(250);
+    for _ in 0..3 {
+        page.expect(Call::Branch, always(), 0);
+    }
+    page.expect(Call::Branch, always(), 6);
+    page.expect_body("02 0005 04 00 00 00 00 00 00 00 00");
+}
+
+/// in(0, a whole number into each variable, any whole number).
+fn read(variables: &[u8]) -> Addition {
+    let binds = variables.iter().map(|variable| field(1, 0, *variable, 0));
+    addition(1, 0, 0, &binds.chain([field(5, 0, 0, 0)]).collect::<Vec<Field>>())
+}
+
+/// A begun body with these additions done.
+fn grown(operations: &[Addition]) -> Page {
+    let mut page = Page::begun(300);
+    operations.iter().for_each(|operation| page.expect(Call::Operation, *operation, 0));
+    page
+}
+
+#[test]
+fn an_operation_to_250_and_to_251_bytes() {
+    let mut page = grown(&[out(6), out(6), out(6), out(6), out(6), out(5), read(&[0, 1])]);
+    assert_eq!(page.body.bytes.len(), 245);
+    page.expect(Call::Operation, addition(7, 0, 0, &[field(5, 0, 0, 0)]), 6);
+    page.expect(Call::Operation, read(&[]), 0);
+    assert_eq!(page.body.bytes.len(), 250);
+}
+
+#[test]
+fn a_branch_to_250_and_to_251_bytes() {
+    let mut page = grown(&[out(6), out(6), out(6), out(6), out(6), out(6), read(&[0])]);
+    assert_eq!(page.body.bytes.len(), 248);
+    page.expect(Call::Branch, always(), 0);
+    assert_eq!(page.body.bytes.len(), 250);
+    page.expect(Call::Branch, always(), 6);
+    let mut page = grown(&[out(6), out(6), out(6), out(6), out(6), out(6), read(&[])]);
+    assert_eq!(page.body.bytes.len(), 245);
+    page.expect(Call::Branch, read(&[]), 6);
+    page.expect(Call::Operation, addition(7, 0, 0, &[]), 0);
+    assert_eq!(page.body.bytes.len(), 249);
+    page.expect(Call::Branch, always(), 6);
+}
+
+/// 6 where the addition is illegal in a short buffer too; 2 only where it is legal.
+#[test]
+fn two_not_before_six() {
+    let name = field(0, 1, 0, 65_536);
+    for length in 0..=8 {
+        let mut page = Page::new(length);
+        page.expect(Call::Begin { host: 16, process: 5 }, always(), 6);
+        page.expect(BEGIN, out(1), 6);
+        page.expect(BEGIN, addition(1, 0, 0, &[name]), 6);
+        page.expect(BEGIN, addition(1, 256, 0, &[field(5, 0, 0, 0)]), 6);
+        page.expect(BEGIN, always(), if length < 6 { 2 } else { 0 });
+    }
+    for length in 6..=15 {
+        let mut page = Page::begun(length);
+        page.expect(Call::Operation, always(), 6);
+        page.expect(Call::Operation, addition(5, 0, 0, &[name]), 6);
+        page.expect(Call::Branch, out(1), 6);
+        page.expect(Call::Operation, out(1), if length < 15 { 2 } else { 0 });
+    }
+}
+
+#[test]
+fn spaces_above_255() {
+    for space in [0, 1, 255, 256, 257, 511, 65_535] {
+        let answer = if space < 256 { 0 } else { 6 };
+        let any = [field(5, 0, 0, 0)];
+        Page::new(250).expect(BEGIN, addition(1, space, 0, &any), answer);
+        Page::new(250).expect(BEGIN, addition(1, 0, space, &any), 0);
+        Page::begun(250).expect(Call::Operation, addition(6, space, 0, &any), answer);
+        Page::begun(250).expect(Call::Operation, addition(7, 0, space, &any), answer);
+        Page::begun(250).expect(Call::Branch, addition(4, space, 0, &any), answer);
+    }
+}
+
+#[test]
+fn values_that_are_not_legal() {
+    let metres = |bits| addition(5, 0, 0, &[field(0, 2, 0, bits)]);
+    for (bits, answer) in [(0, 0), (0x7F7F_FFFF, 0), (0x8000_0000, 6), (0x7F80_0000, 6), (0x7FC0_0000, 6)] {
+        Page::begun(250).expect(Call::Operation, metres(bits), answer);
+    }
+    Page::begun(250).expect(Call::Operation, addition(5, 0, 0, &[field(0, 1, 0, 65_535)]), 0);
+    Page::begun(250).expect(Call::Operation, addition(5, 0, 0, &[field(0, 1, 0, 65_536)]), 6);
+    Page::begun(250).expect(Call::Operation, addition(5, 0, 0, &[field(0, 3, 0, 0)]), 6);
+}
+
+/// Every buffer length, for additions of every size; a fill past the buffer is 6.
+#[test]
+fn every_buffer_length() {
+    let mut desk = Desk::new(library);
+    let mut body = Body::default();
+    let ample: Vec<u8> = vec![0xEE; 257];
+    for (call, addition) in [
+        (BEGIN, always()),
+        (Call::Operation, out(6)),
+        (Call::Branch, addition(1, 0, 0, &[field(1, 0, 0, 0)])),
+    ] {
+        let after = body.with(call, &addition).expect("it has bytes");
+        let bytes = [&body.bytes[..], &ample[body.bytes.len()..]].concat();
+        for length in 0..=256 {
+            let expected = match length {
+                _ if length < body.bytes.len() => 6,
+                _ if length < after.bytes.len() => 2,
+                _ => 0,
+            };
+            let answer = desk.add(&body, call, &addition, &bytes[..length]);
+            assert_eq!(answer, Ok(expected), "{length} bytes");
+        }
+        body = after;
+    }
+}
+
+/// A null pointer with length 0 is an empty buffer; after a refused begin nothing can be added.
+#[test]
+fn null_and_a_refused_begin() {
+    let mut fill = 9;
+    unsafe {
+        assert_eq!((replica_begin(null_mut(), 0, &mut fill, 2, 5, out(1)), fill), (6, 0));
+        fill = 9;
+        assert_eq!((replica_begin(null_mut(), 0, &mut fill, 2, 5, always()), fill), (2, 0));
+        assert_eq!((replica_operation(null_mut(), 0, &mut fill, out(1)), fill), (6, 0));
+        fill = usize::MAX;
+        assert_eq!((replica_operation(null_mut(), 0, &mut fill, out(1)), fill), (6, usize::MAX));
+    }
+}
+
+// ---- The comparison itself ----
+
+/// What the chains say of a writer.
+fn verdict(write: Write) -> Result<(), String> {
+    let mut desk = Desk::new(write);
+    (0..60).try_for_each(|number| chain(SEED, number, &mut desk))
+}
+
+/// The chains notice it, and the fault has these words.
+fn noticed(write: Write, words: &str) {
+    let fault = verdict(write).expect_err("not noticed");
+    assert!(fault.contains(words), "{fault}");
+    assert!(fault.starts_with("seed 5 chain "), "{fault}");
+}
+
+#[test]
+fn the_second_implementation_passes() {
+    assert_eq!(verdict(reference), Ok(()));
+}
+
+#[test]
+fn wrong_two_before_six() {
+    noticed(
+        |body, fill, call, addition| {
+            let needed = fill.saturating_add(bytes(&addition).map_or(0, |bytes| bytes.len()));
+            if call == Call::Operation && body.len() < needed {
+                return 2;
+            }
+            reference(body, fill, call, addition)
+        },
+        "returned 2 and not 6",
+    );
+}
+
+#[test]
+fn wrong_count_not_raised() {
+    noticed(
+        |body, fill, call, addition| {
+            let (before, filled) = (body.to_vec(), *fill);
+            let answer = reference(body, fill, call, addition);
+            if answer == 0 && call == Call::Operation {
+                body[..filled].copy_from_slice(&before[..filled]);
+            }
+            answer
+        },
+        "the body byte",
+    );
+}
+
+#[test]
+fn wrong_branch_count_not_raised() {
+    noticed(
+        |body, fill, call, addition| {
+            let answer = reference(body, fill, call, addition);
+            if answer == 0 && call == Call::Branch {
+                body[3] -= 1;
+            }
+            answer
+        },
+        "the body byte 3",
+    );
+}
+
+#[test]
+fn wrong_byte_past_the_fill() {
+    noticed(
+        |body, fill, call, addition| {
+            let answer = reference(body, fill, call, addition);
+            if answer == 0 && *fill < body.len() {
+                body[*fill] ^= 1;
+            }
+            answer
+        },
+        "the body byte",
+    );
+}
+
+#[test]
+fn wrong_byte_past_the_buffer() {
+    noticed(
+        |body, fill, call, addition| {
+            unsafe { body.as_mut_ptr().add(body.len()).write(0) };
+            reference(body, fill, call, addition)
+        },
+        "the body was written 1 bytes past its end",
+    );
+}
+
+#[test]
+fn wrong_space_256_let_through() {
+    noticed(
+        |body, fill, call, mut addition| {
+            addition.from %= 256;
+            reference(body, fill, call, addition)
+        },
+        "and not 6",
+    );
+}
+
+#[test]
+fn wrong_target_space_of_an_in_looked_at() {
+    noticed(
+        |body, fill, call, mut addition| {
+            addition.from = addition.from.max(if addition.to > 255 { 256 } else { 0 });
+            reference(body, fill, call, addition)
+        },
+        "returned 6 and not",
+    );
+}
+
+#[test]
+fn wrong_fill_lost_where_refused() {
+    noticed(
+        |body, fill, call, addition| {
+            let answer = reference(body, fill, call, addition);
+            if answer != 0 {
+                *fill = 0;
+            }
+            answer
+        },
+        "the fill is 0 and not",
+    );
+}
+
+#[test]
+fn wrong_bytes_of_a_refused_addition() {
+    noticed(
+        |body, fill, call, addition| {
+            let answer = reference(body, fill, call, addition);
+            if let (2, Some(bytes)) = (answer, bytes(&addition)) {
+                let at = (*fill).min(body.len());
+                let room = bytes.len().min(body.len() - at);
+                body[at..at + room].copy_from_slice(&bytes[..room]);
+            }
+            answer
+        },
+        "the body byte",
+    );
+}
+
+#[test]
+fn wrong_body_of_251_bytes() {
+    noticed(
+        |body, fill, call, addition| match reference(body, fill, call, addition) {
+            6 if call == Call::Operation && (245..=250).contains(fill) => 2,
+            answer => answer,
+        },
+        "returned 2 and not 6",
+    );
+}
