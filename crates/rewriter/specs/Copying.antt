@@ -3,7 +3,7 @@ use mathlib.Core.Path.{_≡_, refl, sym, ap, subst, _∙_}
 use Prim.Native.Nat.{ℕ, zero, suc, _+_, _-_, _≤_, _<_}
 use native.Mathlib.Omega.{arith}
 use mathlib.Core.Bool.{Bool, true}
-use mathlib.Core.Option.{some, Option·some-injective, Option·none-ne-some}
+use mathlib.Core.Option.{Option, some, Option·some-injective, Option·none-ne-some}
 use mathlib.Core.List.{List, [], _∷_, _++_, map}
 use lib.ListN.{length, drop, getD}
 use lib.Seq.{drop-append-seam}
@@ -18,7 +18,6 @@ use Rattle.model.specs.Reading.{several, give, operation, branch}
 use Rattle.model.specs.Legal.{legalBranch, legalStatement, parse, legalBody}
 use Rattle.model.specs.Writing.{statementBytes}
 use Rattle.model.specs.ReadBack.{BodyOf, several-length, parse-parts}
-use Rattle.statements.specs.declared.Operation.{Operation}
 use Rattle.statements.specs.declared.OperationRead.{OperationRead}
 use Rattle.statements.specs.At.{found}
 use Rattle.statements.specs.Flat.{operationIs, readIs, Reads, fewFields, operationAt}
@@ -26,6 +25,7 @@ use Rattle.statements.specs.Walk.{body-parts}
 use Rattle.statements.specs.Legal.{one-branch, one-operation, operation-at, branch-at}
 use Rattle.writer.specs.declared.Added.{Added}
 use Rattle.writer.specs.Writer.{handed, begun, Written, writtenIs, isWritable, filledWith, beginOn, addOperation, addBranch}
+use Rattle.writer.specs.Tests.{parts-handed}
 use Rattle.writer.specs.Grown.{legal-some}
 use Rattle.writer.specs.Room.{processAt, branchCountAt, branchesAt}
 use Rattle.writer.specs.LastCount.{bytes-below, body-some}
@@ -33,6 +33,10 @@ use Rattle.rewriter.specs.Additions as addition
 use Rattle.rewriter.specs.Additions.{Addition, additions, handIn, grow, growAll}
 use Rattle.rewriter.specs.Fronts.{legal-each, branch-few, front, some-grow, grown-all}
 use Rattle.rewriter.specs.RoundTrips.{holding, drop-front, begin-front, operation-front, branch-front}
+
+-- what was read can be handed in as it is
+read-handed : (r : OperationRead) (o : Option (model.Operation × ℕ)) → Reads r o → handed (r .operation) ≡ some (operationIs (r .operation))
+read-handed r o s = parts-handed (r .operation) (s .code) (s .count) (s .formed)
 
 -- ---- what stands ahead
 
@@ -154,11 +158,11 @@ module _ (body buffer : List ℕ) (at count later fill : ℕ) (out : List ℕ) (
 
 -- one operation more
 pub operation-turn : (body buffer : List ℕ) (at m later fill : ℕ) (out : List ℕ) (u : Underway body buffer at (suc m) later fill out) (r : OperationRead) → Reads r (operationAt body at)
-    → (p : Operation) → handed p ≡ some (operationIs (r .operation)) → (a : Added) (next : List ℕ) → writtenIs a next ≡ addOperation out fill p → Underway body buffer (r .end) m later (a .fill) next
-operation-turn body buffer at m later fill out u r s p h a next w = go (u .os) (u .ahead) (u .grows) (several-length operation (suc m) (drop at body) (u .ahead .rest) (u .os) (u .ahead .reads))
+    → (a : Added) (next : List ℕ) → writtenIs a next ≡ addOperation out fill (r .operation) → Underway body buffer (r .end) m later (a .fill) next
+operation-turn body buffer at m later fill out u r s a next w = go (u .os) (u .ahead) (u .grows) (several-length operation (suc m) (drop at body) (u .ahead .rest) (u .os) (u .ahead .reads))
   where
-    called : addOperation out fill p ≡ handIn (holding buffer (u .part)) (addition.operation p)
-    called = unfold handIn in called-on buffer (u .part) fill out (λ l n. addOperation l n p) (u .filled) (u .bytes)
+    called : addOperation out fill (r .operation) ≡ handIn (holding buffer (u .part)) (addition.operation (r .operation))
+    called = unfold handIn in called-on buffer (u .part) fill out (λ l n. addOperation l n (r .operation)) (u .filled) (u .bytes)
 
     go : (os : List model.Operation) → Ahead body at (suc m) later os (u .bs) → growAll (u .part) (map addition.operation os ++ additions (u .bs)) ≡ u .whole → length os ≡ suc m
         → Underway body buffer (r .end) m later (a .fill) next
@@ -166,7 +170,7 @@ operation-turn body buffer at m later fill out u r s p h a next w = go (u .os) (
     go (o ∷ os) e g n =
         let k = operation-ahead body at m later o os (u .bs) r e s in
         more body buffer at (suc m) later fill out u (addition.operation o) os (u .bs) g a next (r .end) m later (k .ahead)
-        (λ x y z. w ∙ called ∙ operation-front buffer (u .part) (u .one) p o (h ∙ ap some (k .is)) x y z)
+        (λ x y z. w ∙ called ∙ operation-front buffer (u .part) (u .one) (r .operation) o (read-handed r (operationAt body at) s ∙ ap some (k .is)) x y z)
 
 -- no operation is ahead
 none-ahead : (body : List ℕ) (at later : ℕ) (os : List model.Operation) (bs : List Branch) → Ahead body at 0 later os bs → (os ≡ []) × (several branch later (drop at body) ≡ some (bs, []))
@@ -198,13 +202,13 @@ module _ (body buffer : List ℕ) (at m fill : ℕ) (out : List ℕ) (u : Underw
   guard-within = next-branch .next .within
 
   -- one branch more: its operations are ahead
-  pub branch-turn : (p : Operation) → handed p ≡ some (operationIs (r .operation)) → (a : Added) (next : List ℕ) → writtenIs a next ≡ addBranch out fill p
+  pub branch-turn : (a : Added) (next : List ℕ) → writtenIs a next ≡ addBranch out fill (r .operation)
       → Underway body buffer (r .end + 1) (getD body (r .end) 0) m (a .fill) next
-  branch-turn p h a next w =
+  branch-turn a next w =
       let k = next-branch in
-      let called : addBranch out fill p ≡ handIn (holding buffer (u .part)) (addition.branch p) = unfold handIn in called-on buffer (u .part) fill out (λ l n. addBranch l n p) (u .filled) (u .bytes) in
+      let called : addBranch out fill (r .operation) ≡ handIn (holding buffer (u .part)) (addition.branch (r .operation)) = unfold handIn in called-on buffer (u .part) fill out (λ l n. addBranch l n (r .operation)) (u .filled) (u .bytes) in
       more body buffer at 0 (suc m) fill out u (addition.branch (k .br .guard)) (k .br .body) (k .bs) (k .grows) a next (r .end + 1) (getD body (r .end) 0) m (k .next .ahead)
-      (λ x y z. w ∙ called ∙ branch-front buffer (u .part) (u .one) p (k .br .guard) (h ∙ ap some (k .next .is)) x y z)
+      (λ x y z. w ∙ called ∙ branch-front buffer (u .part) (u .one) (r .operation) (k .br .guard) (read-handed r (operationAt body at) s ∙ ap some (k .next .is)) x y z)
 
 no-branches : (s : List ℕ) (bs : List Branch) (rest : List ℕ) → several branch 0 s ≡ some (bs, rest) → bs ≡ []
 unfolding several give
@@ -300,9 +304,9 @@ module _ (body buffer : List ℕ) (is-legal : legalBody body ≡ true) (byte : (
   first-count = first-branch .count
 
   -- begun: the operations of the first branch are ahead
-  pub begin-turn : (p : Operation) → handed p ≡ some (operationIs (r .operation)) → (host process : ℕ) → host ≡ getD body 0 0 → process ≡ numberAt processAt processWidth body → (a : Added) (next : List ℕ)
-      → writtenIs a next ≡ beginOn buffer host process p → Underway body buffer (r .end + 1) (getD body (r .end) 0) (getD body branchCountAt 0 - 1) (a .fill) next
-  begin-turn p h host process eh ep a next w =
+  pub begin-turn : (host process : ℕ) → host ≡ getD body 0 0 → process ≡ numberAt processAt processWidth body → (a : Added) (next : List ℕ)
+      → writtenIs a next ≡ beginOn buffer host process (r .operation) → Underway body buffer (r .end + 1) (getD body (r .end) 0) (getD body branchCountAt 0 - 1) (a .fill) next
+  begin-turn host process eh ep a next w =
       let k = first-branch in
       let st : Statement = k .whole in
       let g : model.Operation = k .br .guard in
@@ -310,6 +314,6 @@ module _ (body buffer : List ℕ) (is-legal : legalBody body ≡ true) (byte : (
       let one : 1 ≤ length (part .branches) = one-begun (st .host) (st .process) g in
       let grows : growAll part (map addition.operation (k .br .body) ++ additions (k .bs)) ≡ st = grown-all st (k .br) (k .bs) (k .split) in
       let q = part-of body part st (map addition.operation (k .br .body) ++ additions (k .bs)) (k .is) one grows in
-      let called : beginOn buffer host process p ≡ beginOn buffer (st .host) (st .process) p = λ i. beginOn buffer ((eh ∙ k .host) i) ((ep ∙ k .process) i) p in
-      let l = left-by buffer part a next (w ∙ called ∙ begin-front buffer (st .host) (st .process) p g (h ∙ ap some (k .next .is)) (q .0) (omega (arith, q .1))) in
+      let called : beginOn buffer host process (r .operation) ≡ beginOn buffer (st .host) (st .process) (r .operation) = λ i. beginOn buffer ((eh ∙ k .host) i) ((ep ∙ k .process) i) (r .operation) in
+      let l = left-by buffer part a next (w ∙ called ∙ begin-front buffer (st .host) (st .process) (r .operation) g (read-handed r (operationAt body branchesAt) s ∙ ap some (k .next .is)) (q .0) (omega (arith, q .1))) in
       record { whole = st; is = k .is; room = room; part = part; one = one; filled = l .0; bytes = l .1; os = k .br .body; bs = k .bs; ahead = k .next .ahead; grows = grows }

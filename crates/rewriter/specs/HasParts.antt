@@ -1,15 +1,14 @@
 -- Every legal statement can be handed in: its additions have parts. Assumes nothing.
-use mathlib.Core.Path.{_≡_, refl, ap}
+use mathlib.Core.Path.{_≡_, refl, ap, _∙_}
 use Prim.Native.Nat.{ℕ, _-_, _≤_, _<_}
 use native.Mathlib.Omega.{arith}
-use mathlib.Core.Bool.{true, false, _&&_, _||_}
+use mathlib.Core.Bool.{true, false, _&&_}
 use mathlib.Core.Option.{some}
 use mathlib.Core.List.{List, [], _∷_, _++_, map}
 use lib.ListN.{length, take, replicate, length-map}
 use lib.Seq.{take-at}
-use lib.Dec.{T, eqb, leb, ltb, lt→ltb}
-use Rattle.basis.specs.Choice.{provided}
-use Rattle.basis.specs.Logic.{and-l, and-r, both, or-r, is-true}
+use lib.Dec.{T, leb, leb→le}
+use Rattle.basis.specs.Logic.{and-l, and-r, both}
 use Rattle.basis.specs.Lists.{all}
 use Rattle.basis.specs.Sizes.{mostFields}
 use Rattle.model.specs.Statement as model
@@ -17,8 +16,9 @@ use Rattle.model.specs.Statement.{actual, formal, reference, sum, difference, a
 use Rattle.model.specs.Legal.{fieldsOf, legalBranch, legalStatement}
 use Rattle.statements.specs.declared.Field.{Field}
 use Rattle.statements.specs.declared.Operation.{Operation}
-use Rattle.statements.specs.Flat.{fieldOf, fieldIs, fieldsAre, operationOf, operationIs, fewFields}
-use Rattle.writer.specs.Writer.{codes, trueCode, hasForm, isHanded, handed}
+use Rattle.statements.specs.Flat.{codes, hasForm, fieldOf, fieldIs, fieldsAre, operationOf, operationIs, fewFields}
+use Rattle.writer.specs.Writer.{handed}
+use Rattle.writer.specs.Tests.{parts-handed}
 use Rattle.writer.specs.Grown.{legal-some}
 use Rattle.rewriter.specs.Additions.{Addition, operation, branch, additions, Parts, no-part, operation-part, branch-part}
 use Rattle.rewriter.specs.Fronts.{legal-each, branch-few}
@@ -75,12 +75,12 @@ fields-are (f ∷ fs) = λ i. field-is f i ∷ fields-are fs i
 abbrev made : (code from to : ℕ) → List model.Field → Operation
 made code from to fs = record { code = code; from = from; to = to; count = length fs; fields = sixOf fs }
 
+made-is : (code from to : ℕ) (fs : List model.Field) → operationIs (made code from to fs) ≡ operationOf code from to fs
+unfolding operationIs
+made-is code from to fs = rw (six-take fs, fields-are fs)
+
 made-handed : (code from to : ℕ) (fs : List model.Field) → code < codes → T (leb (length fs) mostFields) → handed (made code from to fs) ≡ some (operationOf code from to fs)
-unfolding handed isHanded operationIs provided
-made-handed code from to fs h n =
-    let u : T (ltb code codes) = lt→ltb code codes h in
-    let k : T (ltb code codes && leb (length fs) mostFields && all hasForm (take (length fs) (sixOf fs))) = rw (six-take fs) (search (both, u, n, all-have fs) depth 12) in
-    rw (is-true (eqb code trueCode || (ltb code codes && leb (length fs) mostFields && all hasForm (take (length fs) (sixOf fs)))) (or-r (eqb code trueCode) (ltb code codes && leb (length fs) mostFields && all hasForm (take (length fs) (sixOf fs))) k), six-take fs, fields-are fs)
+made-handed code from to fs h n = parts-handed (made code from to fs) h (leb→le (length fs) mostFields n) (rw (six-take fs) (all-have fs)) ∙ ap some (made-is code from to fs)
 
 -- the parts of an operation that has room for its fields
 pub record HandedBy (o : model.Operation) : Type 0 where

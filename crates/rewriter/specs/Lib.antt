@@ -2,6 +2,5 @@ pub mod Additions
 pub mod Copying
 pub mod Fronts
 pub mod HasParts
-pub mod Known
 pub mod Rewriting
 pub mod RoundTrips

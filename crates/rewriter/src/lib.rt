@@ -1,19 +1,12 @@
 // A body taken apart by the reader, and its parts handed to the writer: the same bytes.
 ghost use mathlib.Core.Path.{_≡_};
 ghost use mathlib.Core.Bool.{true};
-ghost use mathlib.Core.Option.{some};
 ghost use mathlib.Core.List.{List, _++_};
 ghost use Prim.Native.Nat.{ℕ, _≤_};
 ghost use lib.ListN.{length, drop};
-ghost use Rattle.basis.specs.Sizes.{mostFields};
 ghost use Rattle.model.specs.Legal.{legalBody};
-ghost use Rattle.statements.specs.Flat.{operationIs};
-ghost use Rattle.writer.specs.Writer.{handed};
-ghost use Rattle.rewriter.specs.Known.{SameCode, SameField};
 ghost use Rattle.rewriter.specs.Copying.{Underway};
 ghost use Rattle.rewriter.specs.Rewriting.{copied, rewritten};
-use statements::Field;
-use statements::Operation;
 use statements::body_ok;
 use statements::read_operation;
 use words::size;
@@ -21,15 +14,6 @@ use words::word2;
 use writer::begin_at;
 use writer::branch_at;
 use writer::operation_at;
-
-// Codes are below 8, the last is copy; forms below 6, the last any value of a kind.
-const CODES: u8 = 8;
-
-const COPY: u8 = 7;
-
-const FORMS: u8 = 6;
-
-const ANY: u8 = 5;
 
 // A body: host, process, branch count, branches.
 const PROCESS_AT: usize = 1;
@@ -44,58 +28,6 @@ struct Place {
     fill: usize,
 }
 
-// ---- what was read, as it is handed in
-
-// One of the eight codes, of the same operation: parts with a code past them are those of copy.
-fn known_code(code: u8) -> u8
-    ensures { λ r. ⌜ SameCode code r ⌝ }
-{
-    if code < CODES {
-        return code;
-    }
-    COPY
-}
-
-// The same field, of one of the six forms: parts with a form past them are those of any value of a kind.
-fn known_field(f: Field) -> Field
-    ensures { λ r. ⌜ SameField f r ⌝ }
-{
-    if f.form < FORMS {
-        return f;
-    }
-    Field {
-        form: ANY,
-        kind: f.kind,
-        variable: f.variable,
-        bits: f.bits,
-    }
-}
-
-// The same operation, in parts that can be handed in.
-fn known_operation(op: Operation) -> Operation
-    requires { ⌜ op .count ≤ mostFields ⌝ }
-    ensures { λ r. ⌜ handed r ≡ some (operationIs op) ⌝ }
-{
-    let mut fields = op.fields;
-    let count = op.count;
-    let mut i: usize = 0;
-    while i < count {
-        let f = fields[i];
-        let g = known_field(f);
-        fields[i] = g;
-        i += 1;
-    }
-    Operation {
-        code: known_code(op.code),
-        from: op.from,
-        to: op.to,
-        count,
-        fields,
-    }
-}
-
-// ---- part by part
-
 // So many operations from a position of the body on, each read and handed in.
 fn copy_operations(body: &[u8], at: usize, count: usize, out: &mut [u8], fill: usize) -> Place
     ensures { λ r. ⌜ ((buffer : List ℕ) (later : ℕ) → Underway (now (body .entry)) buffer at count later fill (now (out .entry)) → Underway (now (body .entry)) buffer (r .at) 0 later (r .fill) (now (out .exit))) ⌝ }
@@ -106,7 +38,7 @@ fn copy_operations(body: &[u8], at: usize, count: usize, out: &mut [u8], fill: u
     while 0 < left {
         let r = read_operation(body, next);
         let op = r.operation;
-        let a = operation_at(out, filled, known_operation(op));
+        let a = operation_at(out, filled, op);
         filled = a.fill;
         next = r.end;
         left -= 1;
@@ -128,7 +60,7 @@ fn copy_branches(body: &[u8], at: usize, count: usize, out: &mut [u8], fill: usi
     while 0 < branches {
         let r = read_operation(body, next);
         let op = r.operation;
-        let a = branch_at(out, filled, known_operation(op));
+        let a = branch_at(out, filled, op);
         let end = r.end;
         let c = copy_operations(body, end + 1, size(body[end]), out, a.fill);
         next = c.at;
@@ -146,7 +78,7 @@ fn copy_body(body: &[u8], out: &mut [u8]) -> usize
     let r = read_operation(body, BRANCHES_AT);
     let op = r.operation;
     let process = word2(body, PROCESS_AT);
-    let a = begin_at(out, body[0], process, known_operation(op));
+    let a = begin_at(out, body[0], process, op);
     let end = r.end;
     let c = copy_operations(body, end + 1, size(body[end]), out, a.fill);
     copy_branches(body, c.at, size(body[COUNT_AT]) - 1, out, c.fill)

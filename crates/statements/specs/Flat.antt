@@ -1,11 +1,12 @@
 -- What the flat structs are: a field by its form, an operation by its code, with its first `count` fields. Assumes nothing.
 use mathlib.Core.Path.{_≡_, _∙_}
-use Prim.Native.Nat.{ℕ, _≤_}
+use Prim.Native.Nat.{ℕ, _≤_, _<_}
 use mathlib.Core.Bool.{Bool, true, false}
 use mathlib.Core.Option.{Option}
 use mathlib.Core.List.{List, [], _∷_, map}
 use lib.ListN.{length, take, getD}
-use lib.Dec.{leb}
+use lib.Dec.{T, leb, ltb}
+use Rattle.basis.specs.Lists.{all}
 use Rattle.basis.specs.Sizes.{mostFields}
 use Rattle.model.specs.Value.{value}
 use Rattle.model.specs.Statement as model
@@ -18,6 +19,18 @@ use Rattle.statements.specs.declared.FieldRead.{FieldRead}
 use Rattle.statements.specs.declared.FieldsRead.{FieldsRead}
 use Rattle.statements.specs.declared.Operation.{Operation}
 use Rattle.statements.specs.declared.OperationRead.{OperationRead}
+
+-- "Codes: 0 true .. 7 copy"
+abbrev pub codes : ℕ
+codes = 8
+
+-- "Fields: form 0 .. Form 5"
+abbrev pub forms : ℕ
+forms = 6
+
+-- a field of one of the six forms
+unfoldable pub hasForm : Field → Bool
+hasForm f = ltb (f .form) forms
 
 -- a field of a form, of its parts
 unfoldable pub fieldOf : (form kind variable bits : ℕ) → model.Field
@@ -56,10 +69,12 @@ fieldsRead n r = found (r .end) (fieldsAre (take n (r .fields)))
 unfoldable pub readIs : OperationRead → Option (model.Operation × ℕ)
 readIs r = found (r .end) (operationIs (r .operation))
 
--- an operation was read so, and it has at most as many fields as there is room for
+-- an operation was read so: its parts have one of the eight codes, and at most as many fields as there is room for, of the six forms
 pub record Reads (r : OperationRead) (o : Option (model.Operation × ℕ)) : Type 0 where
   pub is : readIs r ≡ o
+  pub code : r .operation .code < codes
   pub count : r .operation .count ≤ mostFields
+  pub formed : T (all hasForm (take (r .operation .count) (r .operation .fields)))
 
 -- at most as many fields as a tuple has values
 unfoldable pub fewFields : model.Operation → Bool
@@ -69,5 +84,10 @@ fewFields o = leb (length (fieldsOf o)) mostFields
 unfoldable pub operationAt : List ℕ → ℕ → Option (model.Operation × ℕ)
 operationAt b at = passed fewFields (readAt operation b at)
 
+-- an operation with no field
+pub none-formed : (o : Operation) → o .count ≡ 0 → T (all hasForm (take (o .count) (o .fields)))
+unfolding all
+none-formed o e = rw e tt
+
 pub reads-as : (r : OperationRead) (o same : Option (model.Operation × ℕ)) → Reads r o → o ≡ same → Reads r same
-reads-as r o same h e = record { is = h .is ∙ e; count = h .count }
+reads-as r o same h e = record { is = h .is ∙ e; code = h .code; count = h .count; formed = h .formed }

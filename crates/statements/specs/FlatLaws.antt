@@ -2,12 +2,25 @@
 use mathlib.Core.Path.{_≡_, refl}
 use Prim.Native.Nat.{ℕ, zero, suc, _+_, _≤_, _<_}
 use native.Mathlib.Omega.{arith}
+use mathlib.Core.Logic.{_⊎_, inl, inr}
 use mathlib.Core.List.{List}
 use lib.ListN.{getD}
 use Rattle.basis.specs.Numbers.{numberAt}
 use Rattle.basis.specs.Sizes.{bitsWidth}
-use Rattle.statements.specs.Fields.{fieldAfter, fieldParts}
-use Rattle.statements.specs.Flat.{fieldOf}
+use lib.Dec.{T, lt→ltb}
+use Rattle.statements.specs.At.{which}
+use Rattle.statements.specs.Fields.{widthOf, width-past, fieldAfter, fieldParts}
+use Rattle.statements.specs.Flat.{forms, hasForm, fieldOf}
+use Rattle.statements.specs.declared.Field.{Field}
+
+-- a form that has a width is one of the six
+pub form-known : (f : Field) (form : ℕ) → f .form ≡ form → 0 < widthOf form → T (hasForm f)
+unfolding hasForm
+form-known f form e w = lt→ltb (f .form) forms (go (which forms form))
+  where
+    go : (forms ≤ form) ⊎ (form < forms) → f .form < forms
+    go (inl l) = absurd (omega (arith, width-past form l))
+    go (inr l) = omega arith
 
 pub parts-actual : (b : List ℕ) (at n : ℕ) → getD b at 0 ≡ 0 → n ≡ numberAt (at + 1 + 1) bitsWidth b → fieldOf (getD b at 0) (getD b (at + 1) 0) 0 n ≡ fieldParts b at
 unfolding fieldOf fieldParts fieldAfter

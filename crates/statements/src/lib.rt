@@ -8,11 +8,11 @@ ghost use Rattle.model.specs.Statement.{always};
 ghost use Rattle.basis.specs.Lists.{all};
 ghost use Rattle.model.specs.Reading.{field, several, onSpace, onSpaces, operation, branch};
 ghost use Rattle.statements.specs.At.{readAt, passed, position};
-ghost use Rattle.statements.specs.Flat.{fieldIs, fieldsAre, fieldRead, fieldsRead, operationOf, operationIs, Reads, fewFields, operationAt};
+ghost use Rattle.statements.specs.Flat.{codes, hasForm, fieldIs, fieldsAre, fieldRead, fieldsRead, operationOf, operationIs, Reads, fewFields, operationAt};
 ghost use Rattle.statements.specs.Operations.{fieldsMade};
 ghost use Rattle.statements.specs.Fields.{widthOf, fieldParts, fieldEnd};
 ghost use mathlib.Core.Bool.{not, _&&_};
-ghost use lib.Dec.{ltb};
+ghost use lib.Dec.{T, ltb};
 ghost use Rattle.basis.specs.Choice.{isSome};
 ghost use Rattle.basis.specs.Sizes.{variables};
 ghost use Rattle.model.specs.Value.{value, isKind};
@@ -78,7 +78,9 @@ pub struct OperationRead {
 }
 
 // A field with no part.
-fn no_field() -> Field {
+fn no_field() -> Field
+    ensures { λ r. ⌜ T (hasForm r) ⌝ }
+{
     Field {
         form: 0,
         kind: 0,
@@ -121,7 +123,7 @@ fn field_end(b: &[u8], at: usize) -> usize
 // The parts of the field at a position.
 fn field_parts(b: &[u8], at: usize) -> Field
     requires { ⌜ (0 < widthOf (getD (now b) at 0)) × (at + widthOf (getD (now b) at 0) ≤ length (now b)) ⌝ }
-    ensures { λ r. ⌜ fieldIs r ≡ fieldParts (now (b .entry)) at ⌝ }
+    ensures { λ r. ⌜ (fieldIs r ≡ fieldParts (now (b .entry)) at) × (r .form ≡ getD (now (b .entry)) at 0) ⌝ }
 {
     let form = b[at];
     let from = at + 1;
@@ -162,7 +164,7 @@ fn field_parts(b: &[u8], at: usize) -> Field
 
 // The field at a position: form 0, kind, value; 1, kind, variable; 2, variable; 3 and 4, variable, kind, value; 5, kind.
 pub fn read_field(b: &[u8], at: usize) -> FieldRead
-    ensures { λ r. ⌜ fieldRead r ≡ readAt field (now (b .entry)) at ⌝ }
+    ensures { λ r. ⌜ (fieldRead r ≡ readAt field (now (b .entry)) at) × T (hasForm (r .field)) ⌝ }
 {
     let end = field_end(b, at);
     if end == 0 {
@@ -180,7 +182,7 @@ pub fn read_field(b: &[u8], at: usize) -> FieldRead
 // So many fields from a position on.
 fn read_fields(b: &[u8], at: usize, count: usize) -> FieldsRead
     requires { ⌜ (count ≤ 6) × (0 < at) × (at ≤ length (now b)) ⌝ }
-    ensures { λ r. ⌜ fieldsRead count r ≡ readAt (several field count) (now (b .entry)) at ⌝ }
+    ensures { λ r. ⌜ (fieldsRead count r ≡ readAt (several field count) (now (b .entry)) at) × T (all hasForm (r .fields)) ⌝ }
 {
     let none = no_field();
     let mut fields = [none; MOST_FIELDS];
@@ -202,7 +204,7 @@ fn read_fields(b: &[u8], at: usize, count: usize) -> FieldsRead
 
 // An operation with no part: true.
 fn no_operation() -> Operation
-    ensures { λ r. ⌜ (operationIs r ≡ always) × (r .count ≡ 0) ⌝ }
+    ensures { λ r. ⌜ (operationIs r ≡ always) × (r .count ≡ 0) × (r .code ≡ 0) ⌝ }
 {
     let f = no_field();
     Operation {
@@ -226,7 +228,7 @@ fn no_operation_read() -> OperationRead
 
 // An operation of a code and spaces whose field count stands at a position.
 fn read_counted(b: &[u8], at: usize, code: u8, from: u16, to: u16) -> OperationRead
-    requires { ⌜ (0 < code) × (at < length (now b)) ⌝ }
+    requires { ⌜ (0 < code) × (at < length (now b)) × (code < codes) ⌝ }
     ensures { λ r. ⌜ Reads r (passed fewFields (readAt (fieldsMade (operationOf code from to)) (now (b .entry)) at)) ⌝ }
 {
     let count = size(b[at]);
@@ -249,7 +251,7 @@ fn read_counted(b: &[u8], at: usize, code: u8, from: u16, to: u16) -> OperationR
 
 // Codes 1 to 5, after the code: space, field count, fields.
 fn read_on_space(b: &[u8], at: usize, code: u8) -> OperationRead
-    requires { ⌜ (0 < code) × (at ≤ length (now b)) ⌝ }
+    requires { ⌜ (0 < code) × (at ≤ length (now b)) × (code < codes) ⌝ }
     ensures { λ r. ⌜ Reads r (passed fewFields (readAt (onSpace (λ s. operationOf code s 0)) (now (b .entry)) at)) ⌝ }
 {
     if b.len() - at < 2 {
@@ -260,7 +262,7 @@ fn read_on_space(b: &[u8], at: usize, code: u8) -> OperationRead
 
 // Codes 6 and 7, after the code: from, to, field count, fields.
 fn read_on_spaces(b: &[u8], at: usize, code: u8) -> OperationRead
-    requires { ⌜ (0 < code) × (at ≤ length (now b)) ⌝ }
+    requires { ⌜ (0 < code) × (at ≤ length (now b)) × (code < codes) ⌝ }
     ensures { λ r. ⌜ Reads r (passed fewFields (readAt (onSpaces (operationOf code)) (now (b .entry)) at)) ⌝ }
 {
     if b.len() - at < 3 {

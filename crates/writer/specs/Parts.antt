@@ -25,9 +25,9 @@ use Rattle.model.specs.RoundTrip.{FitsField, FitsOperation, legal-space}
 use Rattle.statements.specs.At.{which}
 use Rattle.statements.specs.declared.Field.{Field}
 use Rattle.statements.specs.declared.Operation.{Operation}
-use Rattle.statements.specs.Flat.{fieldOf, fieldIs, fieldsAre, operationOf, operationIs}
+use Rattle.statements.specs.Flat.{codes, forms, hasForm, fieldOf, fieldIs, fieldsAre, operationOf, operationIs}
 use Rattle.statements.specs.Operations.{fields-of}
-use Rattle.writer.specs.Writer.{codes, trueCode, twoSpaces, forms, hasForm, isHanded}
+use Rattle.writer.specs.Writer.{trueCode, twoSpaces, isHanded}
 use Rattle.writer.specs.Room.{mostFieldSize, fieldsRoom, mostOperationSize}
 use Rattle.writer.specs.Puts.{Puts, puts-none, puts-byte, puts-over, puts-then, puts-as, puts-two, puts-three}
 

@@ -1,6 +1,7 @@
 -- The tests of an addition's parts, one after the other. Assumes nothing.
 use mathlib.Core.Path.{_≡_, refl, _∙_}
-use mathlib.Core.Bool.{Bool, true, false}
+use mathlib.Core.Bool.{Bool, true, false, _&&_, _||_}
+use mathlib.Core.Option.{some}
 use mathlib.Core.Logic.{_⊎_, inl, inr}
 use mathlib.Core.List.{List, [], _∷_}
 use Prim.Native.Nat.{ℕ, zero, suc, _+_, _≤_, _<_}
@@ -8,9 +9,10 @@ use native.Mathlib.Numerals.{add-one}
 use native.Mathlib.Omega.{arith}
 use lib.ListN.{length, take, getD}
 use lib.Seq.{take-suc}
-use lib.Dec.{T, ltb, ltb→lt}
+use lib.Dec.{T, eqb, leb, ltb, ltb→lt, le→leb, lt→ltb}
 use borrow.Author.Tests.{eq-eqb, ne-eqb, lt-ltb, le-ltb, le-leb, lt-leb}
-use Rattle.basis.specs.Logic.{and-l, and-r}
+use Rattle.basis.specs.Logic.{and-l, and-r, both, or-r, is-true}
+use Rattle.basis.specs.Choice.{provided}
 use Rattle.basis.specs.Lists.{all}
 use Rattle.words.specs.ZeroLaws.{all-append, and-true, and-false}
 use Rattle.basis.specs.Sizes.{mostFields, spaceNumbers}
@@ -20,8 +22,8 @@ use Rattle.model.specs.Legal.{isSpace}
 use Rattle.statements.specs.At.{which}
 use Rattle.statements.specs.declared.Field.{Field}
 use Rattle.statements.specs.declared.Operation.{Operation}
-use Rattle.statements.specs.Flat.{fieldsAre, operationOf, operationIs}
-use Rattle.writer.specs.Writer.{codes, trueCode, twoSpaces, forms, hasForm, isHanded}
+use Rattle.statements.specs.Flat.{codes, forms, hasForm, fieldsAre, operationOf, operationIs}
+use Rattle.writer.specs.Writer.{trueCode, twoSpaces, isHanded, handed}
 use Rattle.writer.specs.Parts.{hasBytes, spaces-one, spaces-two}
 
 -- ---- the forms of fields, one by one
@@ -69,6 +71,15 @@ module _ (o : Operation) where
   pub handed-forms : (r : Bool) → (o .code ≡ trueCode → ⊥) → o .code < codes → o .count ≤ mostFields → r ≡ all hasForm (take (o .count) (o .fields)) → r ≡ isHanded o
   unfolding isHanded
   handed-forms r n h m e = e ∙ rw (ne-eqb (o .code) trueCode n, lt-ltb (o .code) codes h, le-leb (o .count) mostFields m)
+
+  -- parts of one of the eight codes, with at most six fields of the six forms, are an operation
+  pub parts-handed : o .code < codes → o .count ≤ mostFields → T (all hasForm (take (o .count) (o .fields))) → handed o ≡ some (operationIs o)
+  unfolding handed isHanded provided
+  parts-handed h m t =
+      let u : T (ltb (o .code) codes) = lt→ltb (o .code) codes h in
+      let v : T (leb (o .count) mostFields) = le→leb (o .count) mostFields m in
+      let k : T (ltb (o .code) codes && leb (o .count) mostFields && all hasForm (take (o .count) (o .fields))) = search (both, u, v, t) depth 12 in
+      rw (is-true (eqb (o .code) trueCode || (ltb (o .code) codes && leb (o .count) mostFields && all hasForm (take (o .count) (o .fields)))) (or-r (eqb (o .code) trueCode) (ltb (o .code) codes && leb (o .count) mostFields && all hasForm (take (o .count) (o .fields))) k))
 
   -- ---- spaces
 

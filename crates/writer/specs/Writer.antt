@@ -12,16 +12,11 @@ use Rattle.model.specs.Statement as model
 use Rattle.model.specs.Statement.{Branch, Statement}
 use Rattle.model.specs.Legal.{legalStatement, parse}
 use Rattle.model.specs.Writing.{statementBytes}
-use Rattle.statements.specs.declared.Field.{Field}
 use Rattle.statements.specs.declared.Operation.{Operation}
-use Rattle.statements.specs.Flat.{operationIs}
+use Rattle.statements.specs.Flat.{codes, hasForm, operationIs}
 use Rattle.writer.specs.declared.Added.{Added}
 
 -- ---- an addition
-
--- "Codes: 0 true .. 7 copy"
-abbrev pub codes : ℕ
-codes = 8
 
 -- "0 true (guard only, no more bytes)"
 abbrev pub trueCode : ℕ
@@ -30,14 +25,6 @@ trueCode = 0
 -- "1 to 5: space", "6 and 7: from, to"
 abbrev pub twoSpaces : ℕ
 twoSpaces = 6
-
--- "Fields: form 0 .. Form 5"
-abbrev pub forms : ℕ
-forms = 6
-
--- a field of one of the six forms
-unfoldable pub hasForm : Field → Bool
-hasForm f = ltb (f .form) forms
 
 -- parts are an operation: one of the eight codes and, but for true, which has no more parts, at most six fields of the six forms
 unfoldable pub isHanded : Operation → Bool

@@ -6,8 +6,8 @@ use lib.ListN.{length, drop, replicate}
 use Rattle.model.specs.Computes.{computes}
 use Rattle.statements.specs.declared.Field.{Field}
 use Rattle.statements.specs.declared.Operation.{Operation}
-use Rattle.statements.specs.Flat.{fieldOf, fieldIs, fieldsAre, operationOf, operationIs}
-use Rattle.writer.specs.Writer.{hasForm, isHanded, handed, begun, inLast, withOperation, withBranch, Written, isWritable, refusedBy, filledWith, written, held, beginOn, addTo, addOperation, addBranch}
+use Rattle.statements.specs.Flat.{hasForm, fieldOf, fieldIs, fieldsAre, operationOf, operationIs}
+use Rattle.writer.specs.Writer.{isHanded, handed, begun, inLast, withOperation, withBranch, Written, isWritable, refusedBy, filledWith, written, held, beginOn, addTo, addOperation, addBranch}
 
 -- ---- what is handed in
 

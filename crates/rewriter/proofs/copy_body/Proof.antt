@@ -42,16 +42,13 @@ module _ (n : tie.After-copy-operations) where
   abbrev w : tie.After-begin-at
   w = z .before .before .before .before
 
-  abbrev k : tie.After-known-operation
-  k = w .before
-
   abbrev r : tie.After-read-operation
-  r = k .before .before .before .before .before
+  r = w .before .before .before .before .before
 
   begun : Underway (bytes r) (buffer r) (r .read-operation .result .end + 1) (getD (bytes r) (r .read-operation .result .end) 0) (getD (bytes r) branchCountAt 0 - 1) (w .begin-at .result .fill) (w .begin-at .last .0)
   begun =
       begin-turn (bytes r) (buffer r) (start r .pre .0) (byte r) (start r .pre .1) (r .read-operation .result) (r .read-operation .ensures)
-      (k .known-operation .result) (k .known-operation .ensures) _ _ refl (k .before .before .before .word2 .ensures) (w .begin-at .result) (w .begin-at .last .0) (w .begin-at .ensures)
+      _ _ refl (w .before .before .before .word2 .ensures) (w .begin-at .result) (w .begin-at .last .0) (w .begin-at .ensures)
 
   first : Underway (bytes r) (buffer r) (n .copy-operations .result .at) 0 (getD (bytes r) branchCountAt 0 - 1) (n .copy-operations .result .fill) (n .copy-operations .last .1 .1 .1 .0)
   first = n .copy-operations .ensures (buffer r) (getD (bytes r) branchCountAt 0 - 1)
@@ -69,17 +66,14 @@ word2-requires c κs = omega (arith, long (c .before))
 shared-slice-read-begin-at : tie.Need-shared-slice-read-begin-at
 shared-slice-read-begin-at c = let h : 0 < length (bytes (c .before .before .before .before)) = omega (arith, long (c .before .before .before .before)) in h
 
-known-operation-requires : tie.Need-known-operation-requires
-known-operation-requires c κs = search needs
-
 begin-at-requires : tie.Need-begin-at-requires
 begin-at-requires c κs = search needs
 
 add-copy-operations : tie.Need-add-copy-operations
-add-copy-operations c = let h = within (c .before .before .before .before .before .before .before .before) in search needs
+add-copy-operations c = let h = within (c .before .before .before .before .before .before .before) in search needs
 
 shared-slice-read-size : tie.Need-shared-slice-read-size
-shared-slice-read-size c = within (c .before .before .before .before .before .before .before .before .before)
+shared-slice-read-size c = within (c .before .before .before .before .before .before .before .before)
 
 size-requires : tie.Need-size-requires
 size-requires c κs = search needs
@@ -88,13 +82,13 @@ copy-operations-requires : tie.Need-copy-operations-requires
 copy-operations-requires c κs = search needs
 
 shared-slice-read-size-2 : tie.Need-shared-slice-read-size-2
-shared-slice-read-size-2 c = long (c .before .before .before .before .before .before .before .before .before .before .before .before .before .before .before)
+shared-slice-read-size-2 c = long (c .before .before .before .before .before .before .before .before .before .before .before .before .before .before)
 
 size-requires-2 : tie.Need-size-requires-2
 size-requires-2 c κs = search needs
 
 sub-copy-branches : tie.Need-sub-copy-branches
-sub-copy-branches c = omega (arith, c .size2 .ensures .0, count (c .before .before .before .before .before .before .before .before .before .before .before .before .before .before .before .before))
+sub-copy-branches c = omega (arith, c .size2 .ensures .0, count (c .before .before .before .before .before .before .before .before .before .before .before .before .before .before .before))
 
 copy-branches-requires : tie.Need-copy-branches-requires
 copy-branches-requires c κs =
@@ -122,7 +116,6 @@ copy-body-spec =
     read-operation-requires
     word2-requires
     shared-slice-read-begin-at
-    known-operation-requires
     begin-at-requires
     add-copy-operations
     shared-slice-read-size

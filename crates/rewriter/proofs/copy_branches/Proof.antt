@@ -42,17 +42,14 @@ loop-holds c = (refl, c .before .before .pre)
 read-operation-requires : tie.Need-read-operation-requires Inv-loop μ-loop
 read-operation-requires c κs = search needs
 
-known-operation-requires : tie.Need-known-operation-requires Inv-loop μ-loop
-known-operation-requires c κs = c .before .before .read-operation .ensures .count
-
 branch-at-requires : tie.Need-branch-at-requires Inv-loop μ-loop
 branch-at-requires c κs = search needs
 
 add-copy-operations : tie.Need-add-copy-operations Inv-loop μ-loop
-add-copy-operations c = let h = within (c .before .before .before .before .before .before) in search needs
+add-copy-operations c = let h = within (c .before .before .before .before .before) in search needs
 
 shared-slice-read-size : tie.Need-shared-slice-read-size Inv-loop μ-loop
-shared-slice-read-size c = within (c .before .before .before .before .before .before .before)
+shared-slice-read-size c = within (c .before .before .before .before .before .before)
 
 size-requires : tie.Need-size-requires Inv-loop μ-loop
 size-requires c κs = search needs
@@ -61,22 +58,21 @@ copy-operations-requires : tie.Need-copy-operations-requires Inv-loop μ-loop
 copy-operations-requires c κs = search needs
 
 sub-branches : tie.Need-sub-branches Inv-loop μ-loop
-sub-branches c = let r = c .before .before .before .before .before .before .before .before .before .before .before .before in r .before .loop-test .taken
+sub-branches c = let r = c .before .before .before .before .before .before .before .before .before .before .before in r .before .loop-test .taken
 
 loop-less : tie.Need-loop-less Inv-loop μ-loop
-loop-less c = let r = c .before .before .before .before .before .before .before .before .before .before .before .before in let pos : 0 < at r .loop .branches = r .before .loop-test .taken in omega arith
+loop-less c = let r = c .before .before .before .before .before .before .before .before .before .before .before in let pos : 0 < at r .loop .branches = r .before .loop-test .taken in omega arith
 
 loop-again : tie.Need-loop-again Inv-loop μ-loop
 loop-again c =
     let n = c .before .before in
     let z = n .before .before in
     let w = z .before .before .before .before in
-    let k = w .before in
-    let r = k .before .before .before in
+    let r = w .before .before .before in
     let l = at r .loop in
     let turn : Underway (bytes r) (buffer r) (r .read-operation .result .end + 1) (getD (bytes r) (r .read-operation .result .end) 0) (l .branches - 1) (w .branch-at .result .fill) (w .branch-at .last .0) =
     branch-turn (bytes r) (buffer r) (l .next) (l .branches - 1) (l .filled) (l .out) (ahead r) (r .read-operation .result) (r .read-operation .ensures)
-    (k .known-operation .result) (k .known-operation .ensures) (w .branch-at .result) (w .branch-at .last .0) (w .branch-at .ensures) in (
+    (w .branch-at .result) (w .branch-at .last .0) (w .branch-at .ensures) in (
       n .copy-operations .kept .1 .1 .1 .0 ∙ w .branch-at .kept .0 ∙ l .inv .0,
       n .copy-operations .ensures (buffer r) (l .branches - 1) (subst (λ (m : ℕ). Underway (bytes r) (buffer r) (r .read-operation .result .end + 1) m (l .branches - 1) (w .branch-at .result .fill) (w .branch-at .last .0)) (sym (z .size .ensures .0)) turn),
     )
@@ -99,7 +95,6 @@ copy-branches-spec =
     μ-loop
     loop-holds
     read-operation-requires
-    known-operation-requires
     branch-at-requires
     add-copy-operations
     shared-slice-read-size

@@ -23,9 +23,6 @@ loop-holds c = (refl, λ buffer later u. u)
 read-operation-requires : tie.Need-read-operation-requires Inv-loop μ-loop
 read-operation-requires c κs = search needs
 
-known-operation-requires : tie.Need-known-operation-requires Inv-loop μ-loop
-known-operation-requires c κs = c .before .before .read-operation .ensures .count
-
 operation-at-requires : tie.Need-operation-at-requires Inv-loop μ-loop
 operation-at-requires c κs = search needs
 
@@ -38,8 +35,7 @@ loop-less c = search needs
 loop-again : tie.Need-loop-again Inv-loop μ-loop
 loop-again c =
     let w = c .before .before in
-    let k = w .before in
-    let r = k .before .before .before in
+    let r = w .before .before .before in
     let l = r .before .before in
     let a = l .before .before .before .args in
     let pos : 0 < l .loop .left = r .before .loop-test .taken in
@@ -47,7 +43,7 @@ loop-again c =
       w .operation-at .kept .0 ∙ l .loop .inv .0,
       λ buffer later u. operation-turn (now (a .body)) buffer (l .loop .next) (l .loop .left - 1) later (l .loop .filled) (l .loop .out)
           (subst (λ (n : ℕ). Underway (now (a .body)) buffer (l .loop .next) n later (l .loop .filled) (l .loop .out)) more (l .loop .inv .1 buffer later u))
-          (r .read-operation .result) (r .read-operation .ensures) (k .known-operation .result) (k .known-operation .ensures) (w .operation-at .result) (w .operation-at .last .0) (w .operation-at .ensures),
+          (r .read-operation .result) (r .read-operation .ensures) (w .operation-at .result) (w .operation-at .last .0) (w .operation-at .ensures),
     )
 
 same-length : tie.Need-same-length Inv-loop μ-loop
@@ -67,7 +63,6 @@ copy-operations-spec =
     μ-loop
     loop-holds
     read-operation-requires
-    known-operation-requires
     operation-at-requires
     sub-left
     loop-less

@@ -1,5 +1,5 @@
 -- `statements::field_parts` meets its contract. Assumes nothing.
-use mathlib.Core.Path.{_≡_, ap}
+use mathlib.Core.Path.{_≡_, refl, ap}
 use native.Mathlib.Omega.{arith}
 use denote.Ref.{now}
 use lib.ListN.{getD}
@@ -59,25 +59,25 @@ word4-requires-2 c κs = let s = c .before .before .before .before .before .befo
 
 returns : tie.Need-returns
 unfolding fieldIs
-returns c = let s = c .before .before .before .before .before in parts-actual (now (s .args .b)) (s .args .at) _ (c .before .match .keys1) (c .word4 .ensures)
+returns c = let s = c .before .before .before .before .before in (parts-actual (now (s .args .b)) (s .args .at) _ (c .before .match .keys1) (c .word4 .ensures), refl)
 
 returns-2 : tie.Need-returns-2
 unfolding fieldIs
-returns-2 c = let s = c .before .before .before .before .before in parts-formal (now (s .args .b)) (s .args .at) (c .before .match .keys2)
+returns-2 c = let s = c .before .before .before .before .before in (parts-formal (now (s .args .b)) (s .args .at) (c .before .match .keys2), refl)
 
 returns-3 : tie.Need-returns-3
 unfolding fieldIs
-returns-3 c = let s = c .before .before .before .before in parts-reference (now (s .args .b)) (s .args .at) (c .match .keys3)
+returns-3 c = let s = c .before .before .before .before in (parts-reference (now (s .args .b)) (s .args .at) (c .match .keys3), refl)
 
 returns-4 : tie.Need-returns-4
 unfolding fieldIs
 returns-4 c = let s = c .before .before .before .before .before .before .before in
     let r = c .before .before .before .match .rest in
-    parts-sum (now (s .args .b)) (s .args .at) _ (omega (arith, r .0 .0 .1, r .0 .1, r .1)) (c .before .before .if1 .taken) (c .word42 .ensures)
+    (parts-sum (now (s .args .b)) (s .args .at) _ (omega (arith, r .0 .0 .1, r .0 .1, r .1)) (c .before .before .if1 .taken) (c .word42 .ensures), refl)
 
 returns-5 : tie.Need-returns-5
 unfolding fieldIs
-returns-5 c = let s = c .before .before .before .before .before in parts-anonymous (now (s .args .b)) (s .args .at) (c .if1 .left)
+returns-5 c = let s = c .before .before .before .before .before in (parts-anonymous (now (s .args .b)) (s .args .at) (c .if1 .left), refl)
 
 pub field-parts-spec : {M : Type 1} → statement M
 field-parts-spec =

@@ -10,7 +10,7 @@ no-field-requires c κs = search needs
 
 returns : tie.Need-returns
 unfolding operationIs operationOf
-returns c = (refl, refl)
+returns c = (refl, refl, refl)
 
 pub no-operation-spec : {M : Type 1} → statement M
 no-operation-spec = tie.close (tie.spec no-field-requires returns)

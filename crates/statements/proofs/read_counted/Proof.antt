@@ -3,8 +3,9 @@ use mathlib.Core.Path.{sym, _∙_}
 use native.Mathlib.Omega.{arith}
 use denote.Ref.{now}
 use borrow.Author.Needs.{needs}
-use Rattle.statements.specs.Flat.{operationIs, readIs}
+use Rattle.statements.specs.Flat.{hasForm, operationIs, readIs}
 use Rattle.statements.specs.Operations.{fields-many, fields-few}
+use Rattle.statements.specs.Several.{all-take}
 use Rattle.statements.proofs.read_counted.Statement.{statement}
 use Rattle.statements.proofs.read_counted.Tie as tie
 
@@ -23,7 +24,9 @@ returns c = let k = c .before .before in
     let e = c .no-operation-read .ensures in
     record {
       is = e .is ∙ sym (fields-many (s .args .code) (s .args .from) (s .args .to) (now (s .args .b)) (s .args .at) (s .pre .0) (s .pre .1) (omega (arith, k .size .ensures .0, c .before .if1 .taken)));
+      code = e .code;
       count = e .count;
+      formed = e .formed;
     }
 
 add-read-fields : tie.Need-add-read-fields
@@ -37,8 +40,10 @@ unfolding readIs operationIs
 returns-2 c = let k = c .before .before .before in
     let s = k .before .before .before in
     record {
-      is = fields-few (s .args .code) (s .args .from) (s .args .to) (now (s .args .b)) (s .args .at) (k .size .result) (c .before .read-fields .result) (s .pre .0) (s .pre .1) (k .size .ensures .0) (c .before .before .if1 .left) (c .before .read-fields .ensures);
+      is = fields-few (s .args .code) (s .args .from) (s .args .to) (now (s .args .b)) (s .args .at) (k .size .result) (c .before .read-fields .result) (s .pre .0) (s .pre .1) (k .size .ensures .0) (c .before .before .if1 .left) (c .before .read-fields .ensures .0);
+      code = s .pre .2;
       count = c .before .before .if1 .left;
+      formed = all-take hasForm (k .size .result) (c .before .read-fields .result .fields) (c .before .read-fields .ensures .1);
     }
 
 pub read-counted-spec : {M : Type 1} → statement M

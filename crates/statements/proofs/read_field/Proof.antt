@@ -4,6 +4,7 @@ use denote.Ref.{now}
 use borrow.Author.Needs.{needs}
 use Rattle.statements.specs.At.{found, found-none}
 use Rattle.statements.specs.Fields.{field-read, ends}
+use Rattle.statements.specs.FlatLaws.{form-known}
 use Rattle.statements.specs.Flat.{fieldRead}
 use Rattle.statements.proofs.read_field.Statement.{statement}
 use Rattle.statements.proofs.read_field.Tie as tie
@@ -18,7 +19,7 @@ returns : tie.Need-returns
 unfolding fieldRead
 returns c = let s = c .before .before .before .before in
     let e = c .before .before .field-end .ensures in
-    found-none 0 _ refl ∙ sym (field-read (now (s .args .b)) (s .args .at) ∙ found-none _ _ (sym e ∙ c .before .if1 .taken))
+    (found-none 0 _ refl ∙ sym (field-read (now (s .args .b)) (s .args .at) ∙ found-none _ _ (sym e ∙ c .before .if1 .taken)), c .no-field .ensures)
 
 field-parts-requires : tie.Need-field-parts-requires
 field-parts-requires c κs = let s = c .before .before .before in
@@ -28,7 +29,8 @@ field-parts-requires c κs = let s = c .before .before .before in
 returns-2 : tie.Need-returns-2
 unfolding fieldRead
 returns-2 c = let s = c .before .before .before .before in
-    (λ i. found (c .before .before .field-end .ensures i) (c .field-parts .ensures i)) ∙ sym (field-read (now (s .args .b)) (s .args .at))
+    let k = ends (now (s .args .b)) (s .args .at) (λ z. c .before .if1 .left (c .before .before .field-end .ensures ∙ z)) in
+    ((λ i. found (c .before .before .field-end .ensures i) (c .field-parts .ensures .0 i)) ∙ sym (field-read (now (s .args .b)) (s .args .at)), form-known (c .field-parts .result) _ (c .field-parts .ensures .1) (k .form))
 
 pub read-field-spec : {M : Type 1} → statement M
 read-field-spec =

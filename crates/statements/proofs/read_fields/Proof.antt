@@ -3,7 +3,8 @@ use mathlib.Core.Path.{refl}
 use Prim.Native.Nat.{_-_}
 use denote.Ref.{now}
 use borrow.Author.Needs.{needs}
-use Rattle.statements.specs.Several.{Underway, fields-start, fields-turn, fields-stop, fields-done}
+use Rattle.statements.specs.Flat.{hasForm}
+use Rattle.statements.specs.Several.{all-replicate, Underway, fields-start, fields-turn, fields-stop, fields-done}
 use Rattle.statements.proofs.read_fields.Statement.{statement}
 use Rattle.statements.proofs.read_fields.Tie as tie
 
@@ -17,16 +18,18 @@ no-field-requires : tie.Need-no-field-requires Inv-loop μ-loop
 no-field-requires c κs = search needs
 
 loop-holds : tie.Need-loop-holds Inv-loop μ-loop
-loop-holds c = let s = c .before .before in fields-start _ _ _ _ (s .pre .1) (s .pre .2) refl
+loop-holds c = let s = c .before .before in fields-start _ _ _ _ (s .pre .1) (s .pre .2) refl (all-replicate hasForm 6 _ (c .no-field .ensures))
 
 read-field-requires : tie.Need-read-field-requires Inv-loop μ-loop
 read-field-requires c κs = search needs
 
 returns : tie.Need-returns Inv-loop μ-loop
 returns c = let l = c .before .before .before in
-    let s = l .before .before .before in
-    fields-stop (now (s .args .b)) (s .args .at) (s .args .count) (l .loop .fields) (l .loop .fields) (l .loop .end) (l .loop .i) (c .before .read-field .result)
-    (c .before .before .loop-test .taken) (l .loop .inv) (c .before .read-field .ensures) (c .if1 .taken)
+    let s = l .before .before .before in (
+      fields-stop (now (s .args .b)) (s .args .at) (s .args .count) (l .loop .fields) (l .loop .fields) (l .loop .end) (l .loop .i) (c .before .read-field .result)
+          (c .before .before .loop-test .taken) (l .loop .inv) (c .before .read-field .ensures .0) (c .if1 .taken),
+      l .loop .inv .formed,
+    )
 
 mul-fields : tie.Need-mul-fields Inv-loop μ-loop
 mul-fields c = search needs
@@ -44,12 +47,12 @@ loop-again : tie.Need-loop-again Inv-loop μ-loop
 loop-again c = let l = c .before .before .before .before in
     let s = l .before .before .before in
     fields-turn (now (s .args .b)) (s .args .at) (s .args .count) (l .loop .fields) (l .loop .end) (l .loop .i) (c .before .before .read-field .result)
-    (s .pre .0) (c .before .before .before .loop-test .taken) (l .loop .inv) (c .before .before .read-field .ensures) (c .before .if1 .left)
+    (s .pre .0) (c .before .before .before .loop-test .taken) (l .loop .inv) (c .before .before .read-field .ensures .0) (c .before .before .read-field .ensures .1) (c .before .if1 .left)
 
 returns-2 : tie.Need-returns-2 Inv-loop μ-loop
 returns-2 c = let l = c .before in
     let s = l .before .before .before in
-    fields-done (now (s .args .b)) (s .args .at) (s .args .count) (l .loop .fields) (l .loop .end) (l .loop .i) (c .loop-test .left) (l .loop .inv)
+    (fields-done (now (s .args .b)) (s .args .at) (s .args .count) (l .loop .fields) (l .loop .end) (l .loop .i) (c .loop-test .left) (l .loop .inv), l .loop .inv .formed)
 
 pub read-fields-spec : {M : Type 1} → statement M
 read-fields-spec =

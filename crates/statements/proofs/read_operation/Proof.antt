@@ -3,7 +3,7 @@ use mathlib.Core.Path.{sym, ap, _∙_}
 use native.Mathlib.Omega.{arith}
 use denote.Ref.{now}
 use borrow.Author.Needs.{needs}
-use Rattle.statements.specs.Flat.{readIs, reads-as}
+use Rattle.statements.specs.Flat.{readIs, none-formed, reads-as}
 use Rattle.statements.specs.At.{found, found-some}
 use Rattle.statements.specs.Operations.{operation-past, operation-always, operation-space, operation-spaces, operation-none}
 use Rattle.statements.proofs.read_operation.Statement.{statement}
@@ -32,7 +32,9 @@ returns-2 c = let k = c .before .before .before in
     let e = c .no-operation .ensures in
     record {
       is = ap (found _) (e .0) ∙ found-some _ _ (omega arith) ∙ sym (operation-always (now (s .args .b)) (s .args .at) (k .if1 .left) (c .before .if2 .taken));
+      code = omega (arith, e .2);
       count = omega (arith, e .1);
+      formed = none-formed (c .no-operation .result) (e .1);
     }
 
 add-read-on-space : tie.Need-add-read-on-space

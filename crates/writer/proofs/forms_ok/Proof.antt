@@ -8,7 +8,7 @@ use borrow.Author.Needs.{needs}
 use Rattle.basis.specs.Lists.{all}
 use Rattle.statements.proofs.Room.{six}
 use Rattle.statements.specs.declared.Field.{Field}
-use Rattle.writer.specs.Writer.{hasForm}
+use Rattle.statements.specs.Flat.{hasForm}
 use Rattle.writer.specs.Tests.{forms-none, forms-more, forms-miss}
 use Rattle.writer.proofs.forms_ok.Statement.{statement}
 use Rattle.writer.proofs.forms_ok.Tie as tie
