@@ -14,7 +14,7 @@
  *  - The buffers of one call must not overlap; the number behind a pointer fill must not lie in the body.
  *  - A null pointer is allowed where its length is 0, and is then an empty buffer: an empty state is turned back with
  *    REPLICA_NOT_A_STATE, an empty reply buffer with REPLICA_REPLY_SHORT, an empty record with REPLICA_NO_RECORD; in
- *    an empty body nothing can be begun. A pointer fill is never null.
+ *    an empty body nothing can be begun. A pointer fill is never null, and is aligned as a size_t is.
  *  - Calls on one state or one body must not run at once. Calls on different ones may.
  *  - A call needs at most REPLICA_STACK_BYTES bytes of stack.
  */

@@ -1,3 +1,4 @@
+pub mod Accepted
 pub mod Additions
 pub mod Copying
 pub mod Fronts
