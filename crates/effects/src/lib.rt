@@ -5,16 +5,16 @@ ghost use Prim.Native.Nat.{_+_, _≤_, _<_};
 ghost use lib.ListN.{length};
 ghost use lib.Dec.{T, leb, eqb};
 ghost use Rattle.basis.specs.Numbers.{count};
-ghost use Rattle.basis.specs.Sizes.{hosts, mostSpaces, mostTuples, spaceNumbers};
+ghost use Rattle.basis.specs.Sizes.{hosts, mostSpaces, mostTuples, spaceNumbers, replyHeaderSize, replyValueSize};
 ghost use Rattle.model.specs.Run.{hostUp, monitorsUsedUp};
 ghost use Rattle.model.specs.Step.{recover, crash, monitor, openSpace, closeSpace, failureTuples, someWaitingNames, inVariable0, effect};
 ghost use Rattle.layout.specs.States.{decode};
-ghost use Rattle.replies.specs.Written.{headSize, valueSize, reply, Wrote};
+ghost use Rattle.replies.specs.Written.{reply, Wrote};
 ghost use Rattle.layout.specs.Stored.{IsStored, Turned};
 
 // "CR and RV the count of hosts now up", "replies show process 0".
 fn answer_up(state: &[u8], out: &mut [u8], host: u8) -> usize
-    requires { ⌜ IsStored (now state) × (headSize + valueSize ≤ length (now out)) ⌝ }
+    requires { ⌜ IsStored (now state) × (replyHeaderSize + replyValueSize ≤ length (now out)) ⌝ }
     ensures { λ r. ⌜ Wrote (reply ((decode (now (state .entry))) .last) host 0 0 0 (inVariable0 (count ((decode (now (state .entry))) .up)))) (now (out .entry)) (now (out .exit)) r ⌝ }
 {
     let up = values::hosts_up(words::word2(state, words::MASK_AT));
@@ -23,7 +23,7 @@ fn answer_up(state: &[u8], out: &mut [u8], host: u8) -> usize
 
 // RV: "the host is up".
 pub fn take_recover(state: &mut [u8], out: &mut [u8], host: u8) -> usize
-    requires { ⌜ IsStored (now state) × (host < hosts) × (hostUp (decode (now state)) host ≡ false) × (headSize + valueSize ≤ length (now out)) ⌝ }
+    requires { ⌜ IsStored (now state) × (host < hosts) × (hostUp (decode (now state)) host ≡ false) × (replyHeaderSize + replyValueSize ≤ length (now out)) ⌝ }
     ensures { λ r. ⌜ Turned (effect (decode (now (state .entry))) (recover host)) (now (out .entry)) (now (state .exit)) (now (out .exit)) r ⌝ }
 {
     records::recover(state, host);
@@ -33,7 +33,7 @@ pub fn take_recover(state: &mut [u8], out: &mut [u8], host: u8) -> usize
 // CR: "it has crashed".
 pub fn take_crash(state: &mut [u8], out: &mut [u8], host: u8) -> usize
     requires { ⌜ IsStored (now state) × (host < hosts) × (hostUp (decode (now state)) host ≡ true)
-        × (length ((decode (now state)) .tuples) + length (failureTuples (decode (now state)) host) ≤ mostTuples) × (headSize + valueSize ≤ length (now out)) ⌝ }
+        × (length ((decode (now state)) .tuples) + length (failureTuples (decode (now state)) host) ≤ mostTuples) × (replyHeaderSize + replyValueSize ≤ length (now out)) ⌝ }
     ensures { λ r. ⌜ Turned (effect (decode (now (state .entry))) (crash host)) (now (out .entry)) (now (state .exit)) (now (out .exit)) r ⌝ }
 {
     records::crash(state, host);
@@ -42,7 +42,7 @@ pub fn take_crash(state: &mut [u8], out: &mut [u8], host: u8) -> usize
 
 // MO: "a new monitor number".
 pub fn take_monitor(state: &mut [u8], out: &mut [u8], host: u8, process: u16) -> usize
-    requires { ⌜ IsStored (now state) × T (not (monitorsUsedUp (decode (now state)))) × (headSize + valueSize ≤ length (now out)) ⌝ }
+    requires { ⌜ IsStored (now state) × T (not (monitorsUsedUp (decode (now state)))) × (replyHeaderSize + replyValueSize ≤ length (now out)) ⌝ }
     ensures { λ r. ⌜ Turned (effect (decode (now (state .entry))) (monitor host process)) (now (out .entry)) (now (state .exit)) (now (out .exit)) r ⌝ }
 {
     let n = records::monitor(state);
@@ -53,7 +53,7 @@ pub fn take_monitor(state: &mut [u8], out: &mut [u8], host: u8, process: u16) ->
 // MS: "opens the next space number".
 pub fn take_open(state: &mut [u8], out: &mut [u8], host: u8, process: u16, owned: bool) -> usize
     requires { ⌜ IsStored (now state) × T (not (leb mostSpaces (length ((decode (now state)) .spaces)) || leb spaceNumbers ((decode (now state)) .next)))
-        × (headSize + valueSize ≤ length (now out)) ⌝ }
+        × (replyHeaderSize + replyValueSize ≤ length (now out)) ⌝ }
     ensures { λ r. ⌜ Turned (effect (decode (now (state .entry))) (openSpace host process owned)) (now (out .entry)) (now (state .exit)) (now (out .exit)) r ⌝ }
 {
     let n = records::open_space(state, process, owned);
@@ -63,7 +63,7 @@ pub fn take_open(state: &mut [u8], out: &mut [u8], host: u8, process: u16, owned
 
 // DS: "closes a space, with its tuples".
 pub fn take_close(state: &mut [u8], out: &mut [u8], host: u8, process: u16, space: u8) -> usize
-    requires { ⌜ IsStored (now state) × T (not (eqb space 0 || someWaitingNames (decode (now state)) space)) × (headSize ≤ length (now out)) ⌝ }
+    requires { ⌜ IsStored (now state) × T (not (eqb space 0 || someWaitingNames (decode (now state)) space)) × (replyHeaderSize ≤ length (now out)) ⌝ }
     ensures { λ r. ⌜ Turned (effect (decode (now (state .entry))) (closeSpace host process space)) (now (out .entry)) (now (state .exit)) (now (out .exit)) r ⌝ }
 {
     records::close_space(state, space);

@@ -6,25 +6,11 @@ use mathlib.Core.List.{List, [], _∷_, _++_, flatMap}
 use lib.ListN.{length, getD, drop}
 use lib.Dec.{eqb}
 use Rattle.basis.specs.Numbers.{bigEndian}
-use Rattle.basis.specs.Sizes.{markWidth, positionWidth, hostWidth, processWidth, bitsWidth, variables}
+use Rattle.basis.specs.Sizes.{positionWidth, hostWidth, processWidth, variables, replyHeaderSize, replyValueSize}
 use Rattle.words.specs.Over.{over}
 use Rattle.model.specs.Value.{Value, value}
 use Rattle.model.specs.Run.{Reply}
 use Rattle.layout.specs.Replies.{replyMark, replyValue, replyBytes}
-
--- ---- widths, in bytes
-
--- mark, position, host, process, outcome, branch, value count
-abbrev pub headSize : ℕ
-headSize = markWidth + positionWidth + hostWidth + processWidth + 3
-
--- variable, kind, four bytes
-abbrev pub valueSize : ℕ
-valueSize = 2 + bitsWidth
-
--- a reply with all variables
-abbrev pub mostReply : ℕ
-mostReply = headSize + variables * valueSize
 
 -- ---- parts
 
@@ -45,7 +31,7 @@ boundTo (suc x) bs ks ns = boundTo x bs ks ns ++ cond (getD bs x false) ((x, val
 pub record PutValues (vs : List (ℕ × Value)) (entry exit : List ℕ) (count : ℕ) : Type 0 where
   pub number : count ≡ length vs
   pub few : count ≤ variables
-  pub bytes : exit ≡ over entry headSize (valuesBytes vs) (count * valueSize)
+  pub bytes : exit ≡ over entry replyHeaderSize (valuesBytes vs) (count * replyValueSize)
 
 -- ---- replies
 

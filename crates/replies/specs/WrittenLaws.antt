@@ -13,7 +13,7 @@ use Rattle.basis.specs.Choice.{maybe, provided}
 use Rattle.basis.specs.Numbers.{bigEndian}
 use Rattle.basis.specs.NumberLaws.{bigEndian-length}
 use Rattle.basis.specs.PadLaws.{Wide, rows-length}
-use Rattle.basis.specs.Sizes.{variables}
+use Rattle.basis.specs.Sizes.{variables, replyHeaderSize, replyValueSize}
 use Rattle.words.specs.Over.{over}
 use Rattle.words.specs.OverLaws.{over-set, over-append, over-front, over-next, over-none, drop-over-at}
 use Rattle.model.specs.Value.{Value, value}
@@ -21,7 +21,7 @@ use Rattle.model.specs.Matching.{Bindings}
 use Rattle.model.specs.Writing.{valueBytes}
 use Rattle.model.specs.Run.{boundFrom}
 use Rattle.layout.specs.Replies.{replyMark, replyValue, replyBytes}
-use Rattle.replies.specs.Written.{headSize, valueSize, headBytes, valuesBytes, boundTo, PutValues, reply, ranValues, Wrote}
+use Rattle.replies.specs.Written.{headBytes, valuesBytes, boundTo, PutValues, reply, ranValues, Wrote}
 
 -- ---- stores
 
@@ -32,9 +32,9 @@ set-next d s n b e h =
     over-set (s ++ drop n d) n b room ∙ over-next d s n (b ∷ []) 1 e refl
 
 -- the seven stores of a head
-pub head-stored : (d d₁ d₂ d₃ : List ℕ) (position host process outcome branch count : ℕ) → headSize ≤ length d → host < 256
+pub head-stored : (d d₁ d₂ d₃ : List ℕ) (position host process outcome branch count : ℕ) → replyHeaderSize ≤ length d → host < 256
     → d₁ ≡ over d 0 replyMark 2 → d₂ ≡ over d₁ 2 (bigEndian 4 position) 4 → d₃ ≡ over (set d₂ 6 host) 7 (bigEndian 2 process) 2
-    → set (set (set d₃ 9 outcome) 10 branch) 11 count ≡ over d 0 (headBytes position host process outcome branch count) headSize
+    → set (set (set d₃ 9 outcome) 10 branch) 11 count ≡ over d 0 (headBytes position host process outcome branch count) replyHeaderSize
 unfolding headBytes bigEndian
 head-stored d d₁ d₂ d₃ position host process outcome branch count h small e₁ e₂ e₃ =
     let a : List ℕ = replyMark ++ bigEndian 4 position in
@@ -52,8 +52,8 @@ head-stored d d₁ d₂ d₃ position host process outcome branch count h small 
     f₇ ∙ sym (over-front d (headBytes position host process outcome branch count) 12 refl ∙ rw one)
 
 -- the three stores of a value
-pub value-stored : (d : List ℕ) (at x k n : ℕ) → at + valueSize ≤ length d
-    → over (set (set d at x) (at + 1) k) (at + 2) (bigEndian 4 n) 4 ≡ over d at (replyValue (x, value k n)) valueSize
+pub value-stored : (d : List ℕ) (at x k n : ℕ) → at + replyValueSize ≤ length d
+    → over (set (set d at x) (at + 1) k) (at + 2) (bigEndian 4 n) 4 ≡ over d at (replyValue (x, value k n)) replyValueSize
 unfolding replyValue valueBytes
 value-stored d at x k n h =
     let l : length (set d at x) ≡ length d = length-set d at x in
@@ -64,13 +64,13 @@ value-stored d at x k n h =
 
 -- ---- values
 
-value-wide : Wide valueSize replyValue
+value-wide : Wide replyValueSize replyValue
 unfolding replyValue valueBytes
 value-wide v = let e = bigEndian-length 4 (v .1 .bits) in omega arith
 
-pub values-length : (vs : List (ℕ × Value)) → length (valuesBytes vs) ≡ length vs * valueSize
+pub values-length : (vs : List (ℕ × Value)) → length (valuesBytes vs) ≡ length vs * replyValueSize
 unfolding valuesBytes
-values-length vs = rows-length valueSize replyValue value-wide vs
+values-length vs = rows-length replyValueSize replyValue value-wide vs
 
 values-more : (vs : List (ℕ × Value)) (v : ℕ × Value) → valuesBytes (vs ++ (v ∷ [])) ≡ valuesBytes vs ++ replyValue v
 unfolding valuesBytes flatMap
@@ -92,24 +92,24 @@ module _ (bs : List Bool) (ks ns : List ℕ) where
   pub record Passed (x : ℕ) (d out : List ℕ) (count : ℕ) : Type 0 where
     pub number : count ≡ length (boundTo x bs ks ns)
     pub few : count ≤ x
-    pub bytes : out ≡ over d headSize (valuesBytes (boundTo x bs ks ns)) (count * valueSize)
+    pub bytes : out ≡ over d replyHeaderSize (valuesBytes (boundTo x bs ks ns)) (count * replyValueSize)
 
   pub passed-none : (d : List ℕ) → Passed 0 d d 0
   unfolding boundTo
-  passed-none d = record { number = refl; few = omega arith; bytes = over-none d headSize (valuesBytes []) }
+  passed-none d = record { number = refl; few = omega arith; bytes = over-none d replyHeaderSize (valuesBytes []) }
 
-  pub passed-yes : (x : ℕ) (d out out′ : List ℕ) (count : ℕ) → getD bs x false ≡ true → headSize + (count + 1) * valueSize ≤ length d → Passed x d out count
-      → out′ ≡ over out (headSize + count * valueSize) (replyValue (x, value (getD ks x 0) (getD ns x 0))) valueSize → Passed (x + 1) d out′ (count + 1)
+  pub passed-yes : (x : ℕ) (d out out′ : List ℕ) (count : ℕ) → getD bs x false ≡ true → replyHeaderSize + (count + 1) * replyValueSize ≤ length d → Passed x d out count
+      → out′ ≡ over out (replyHeaderSize + count * replyValueSize) (replyValue (x, value (getD ks x 0) (getD ns x 0))) replyValueSize → Passed (x + 1) d out′ (count + 1)
   passed-yes x d out out′ count b room p e =
       let vs : List (ℕ × Value) = boundTo x bs ks ns in
       let v : ℕ × Value = (x, value (getD ks x 0) (getD ns x 0)) in
-      let l : length (valuesBytes vs) ≡ count * valueSize = values-length vs ∙ ap (λ (n : ℕ). n * valueSize) (sym (p .number)) in
-      let n : (count + 1) * valueSize ≡ count * valueSize + valueSize = omega arith in
+      let l : length (valuesBytes vs) ≡ count * replyValueSize = values-length vs ∙ ap (λ (n : ℕ). n * replyValueSize) (sym (p .number)) in
+      let n : (count + 1) * replyValueSize ≡ count * replyValueSize + replyValueSize = omega arith in
       record {
         number = rw (bound-yes x b) (sym (length-append vs (v ∷ []) ∙ omega (arith, p .number)));
         few = omega (arith, p .few);
         bytes = rw (bound-yes x b, values-more vs v, n)
-            (e ∙ ap (λ (r : List ℕ). over r (headSize + count * valueSize) (replyValue v) valueSize) (p .bytes) ∙ over-append d headSize (valuesBytes vs) (count * valueSize) (replyValue v) valueSize (omega arith) l);
+            (e ∙ ap (λ (r : List ℕ). over r (replyHeaderSize + count * replyValueSize) (replyValue v) replyValueSize) (p .bytes) ∙ over-append d replyHeaderSize (valuesBytes vs) (count * replyValueSize) (replyValue v) replyValueSize (omega arith) l);
       }
 
   pub passed-no : (x : ℕ) (d out : List ℕ) (count : ℕ) → getD bs x false ≡ false → Passed x d out count → Passed (x + 1) d out count
@@ -126,33 +126,33 @@ reply-parts : (position host process outcome branch : ℕ) (vs : List (ℕ × Va
 unfolding replyBytes headBytes valuesBytes bigEndian
 reply-parts position host process outcome branch vs = refl
 
-head-length : (position host process outcome branch count : ℕ) → length (headBytes position host process outcome branch count) ≡ headSize
+head-length : (position host process outcome branch count : ℕ) → length (headBytes position host process outcome branch count) ≡ replyHeaderSize
 unfolding headBytes bigEndian
 head-length position host process outcome branch count = refl
 
 -- a head after its values
-pub wrote : (position host process outcome branch : ℕ) (vs : List (ℕ × Value)) (d out exit : List ℕ) (count : ℕ) → headSize + count * valueSize ≤ length d → PutValues vs d out count
-    → exit ≡ over out 0 (headBytes position host process outcome branch count) headSize → Wrote (reply position host process outcome branch vs) d exit (headSize + count * valueSize)
+pub wrote : (position host process outcome branch : ℕ) (vs : List (ℕ × Value)) (d out exit : List ℕ) (count : ℕ) → replyHeaderSize + count * replyValueSize ≤ length d → PutValues vs d out count
+    → exit ≡ over out 0 (headBytes position host process outcome branch count) replyHeaderSize → Wrote (reply position host process outcome branch vs) d exit (replyHeaderSize + count * replyValueSize)
 wrote position host process outcome branch vs d out exit count room p e =
     let head : List ℕ = headBytes position host process outcome branch count in
-    let w : ℕ = count * valueSize in
-    let lv : length (valuesBytes vs) ≡ w = values-length vs ∙ ap (λ (n : ℕ). n * valueSize) (sym (p .number)) in
+    let w : ℕ = count * replyValueSize in
+    let lv : length (valuesBytes vs) ≡ w = values-length vs ∙ ap (λ (n : ℕ). n * replyValueSize) (sym (p .number)) in
     let parts : replyBytes (reply position host process outcome branch vs) ≡ head ++ valuesBytes vs = rw (p .number) (reply-parts position host process outcome branch vs) in
-    let n : length (head ++ valuesBytes vs) ≡ headSize + w = length-append head (valuesBytes vs) ∙ omega (arith, head-length position host process outcome branch count) in
-    let rest : drop headSize out ≡ valuesBytes vs ++ drop (headSize + w) d =
-    ap (drop headSize) (p .bytes) ∙ drop-over-at d headSize (valuesBytes vs) w room (omega arith) ∙ ap (λ (l : List ℕ). l ++ drop (headSize + w) d) (take-all w (valuesBytes vs) (omega arith)) in
+    let n : length (head ++ valuesBytes vs) ≡ replyHeaderSize + w = length-append head (valuesBytes vs) ∙ omega (arith, head-length position host process outcome branch count) in
+    let rest : drop replyHeaderSize out ≡ valuesBytes vs ++ drop (replyHeaderSize + w) d =
+    ap (drop replyHeaderSize) (p .bytes) ∙ drop-over-at d replyHeaderSize (valuesBytes vs) w room (omega arith) ∙ ap (λ (l : List ℕ). l ++ drop (replyHeaderSize + w) d) (take-all w (valuesBytes vs) (omega arith)) in
     record {
-      bytes = rw (parts, n) (e ∙ over-front out head headSize (head-length position host process outcome branch count) ∙ ap (λ (l : List ℕ). head ++ l) rest ∙ sym (append-assoc head (valuesBytes vs) (drop (headSize + w) d)));
+      bytes = rw (parts, n) (e ∙ over-front out head replyHeaderSize (head-length position host process outcome branch count) ∙ ap (λ (l : List ℕ). head ++ l) rest ∙ sym (append-assoc head (valuesBytes vs) (drop (replyHeaderSize + w) d)));
       number = sym (ap length parts ∙ n);
     }
 
 -- no values
 pub put-none : (d : List ℕ) → PutValues [] d d 0
 unfolding valuesBytes flatMap
-put-none d = record { number = refl; few = omega arith; bytes = over-none d headSize [] }
+put-none d = record { number = refl; few = omega arith; bytes = over-none d replyHeaderSize [] }
 
 -- one value
-pub put-one : (d out : List ℕ) (v : ℕ × Value) → out ≡ over d headSize (replyValue v) valueSize → PutValues (v ∷ []) d out 1
+pub put-one : (d out : List ℕ) (v : ℕ × Value) → out ≡ over d replyHeaderSize (replyValue v) replyValueSize → PutValues (v ∷ []) d out 1
 unfolding valuesBytes flatMap
 put-one d out v e = record { number = refl; few = omega arith; bytes = rw (append-nil (replyValue v)) e }
 

@@ -3,18 +3,18 @@ ghost use mathlib.Core.Path.{_≡_};
 ghost use mathlib.Core.List.{[]};
 ghost use Prim.Native.Nat.{_+_, _≤_};
 ghost use lib.ListN.{length};
-ghost use Rattle.basis.specs.Sizes.{variables};
+ghost use Rattle.basis.specs.Sizes.{variables, replyHeaderSize, replyValueSize, mostReply};
 ghost use Rattle.words.specs.Over.{over};
 ghost use Rattle.model.specs.Value.{value};
 ghost use Rattle.model.specs.Step.{inVariable0};
 ghost use Rattle.layout.specs.Replies.{replyValue};
-ghost use Rattle.replies.specs.Written.{headSize, valueSize, mostReply, headBytes, boundTo, PutValues, reply, ranValues, Wrote};
+ghost use Rattle.replies.specs.Written.{headBytes, boundTo, PutValues, reply, ranValues, Wrote};
 
 // A reply's bytes before its values.
-pub const HEAD: usize = 12;
+pub const HEAD: usize = words::REPLY_HEADER;
 
 // A value in a reply: variable, kind, four bytes.
-pub const VALUE: usize = 6;
+pub const VALUE: usize = words::REPLY_VALUE;
 
 // "`RP`, position of the record answered (4), host, process (2), outcome, branch, value count".
 fn put_head(
@@ -26,8 +26,8 @@ fn put_head(
     branch: u8,
     count: u8,
 )
-    requires { ⌜ headSize ≤ length (now out) ⌝ }
-    ensures { λ _. ⌜ now (out .exit) ≡ over (now (out .entry)) 0 (headBytes position host process outcome branch count) headSize ⌝ }
+    requires { ⌜ replyHeaderSize ≤ length (now out) ⌝ }
+    ensures { λ _. ⌜ now (out .exit) ≡ over (now (out .entry)) 0 (headBytes position host process outcome branch count) replyHeaderSize ⌝ }
 {
     words::copy_at(out, 0, b"RP");
     words::put4(out, 2, position);
@@ -40,8 +40,8 @@ fn put_head(
 
 // "per value: variable, kind, 4 bytes".
 fn put_value(out: &mut [u8], at: usize, variable: u8, kind: u8, bits: u32)
-    requires { ⌜ at + valueSize ≤ length (now out) ⌝ }
-    ensures { λ _. ⌜ now (out .exit) ≡ over (now (out .entry)) at (replyValue (variable, value kind bits)) valueSize ⌝ }
+    requires { ⌜ at + replyValueSize ≤ length (now out) ⌝ }
+    ensures { λ _. ⌜ now (out .exit) ≡ over (now (out .entry)) at (replyValue (variable, value kind bits)) replyValueSize ⌝ }
 {
     out[at] = variable;
     out[at + 1] = kind;
@@ -67,7 +67,7 @@ fn put_values(out: &mut [u8], bound: [bool; 16], kinds: [u8; 16], bits: [u32; 16
 
 // A reply with no branch and no value.
 pub fn plain_reply(out: &mut [u8], position: u32, host: u8, process: u16, outcome: u8) -> usize
-    requires { ⌜ headSize ≤ length (now out) ⌝ }
+    requires { ⌜ replyHeaderSize ≤ length (now out) ⌝ }
     ensures { λ r. ⌜ Wrote (reply position host process outcome 0 []) (now (out .entry)) (now (out .exit)) r ⌝ }
 {
     put_head(out, position, host, process, outcome, 0, 0);
@@ -76,7 +76,7 @@ pub fn plain_reply(out: &mut [u8], position: u32, host: u8, process: u16, outcom
 
 // "each as variable 0, whole": done, with one number.
 pub fn number_reply(out: &mut [u8], position: u32, host: u8, process: u16, n: u32) -> usize
-    requires { ⌜ headSize + valueSize ≤ length (now out) ⌝ }
+    requires { ⌜ replyHeaderSize + replyValueSize ≤ length (now out) ⌝ }
     ensures { λ r. ⌜ Wrote (reply position host process 0 0 (inVariable0 n)) (now (out .entry)) (now (out .exit)) r ⌝ }
 {
     put_value(out, HEAD, 0, 0, n);

@@ -14,7 +14,7 @@ use Rattle.basis.specs.Choice.{maybe, firstNumber}
 use Rattle.basis.specs.Logic.{and-l, and-r, is-false, is-true, not-not, not-eq}
 use Rattle.basis.specs.Lists.{all}
 use Rattle.basis.specs.Numbers.{numberAt, count}
-use Rattle.basis.specs.Sizes.{hostWidth, processWidth, lastAt, positionWidth, mostTuples, mostSpaces, spaceNumbers, replySize}
+use Rattle.basis.specs.Sizes.{hostWidth, processWidth, lastAt, positionWidth, mostTuples, mostSpaces, spaceNumbers, replySize, mostReply}
 use Rattle.model.specs.Value.{Value}
 use Rattle.model.specs.Legal.{legalBody}
 use Rattle.model.specs.Run.{Run, withMonitors, hostUp, nextMonitor, monitorsUsedUp, Reply, Turn, settle}
@@ -24,7 +24,7 @@ use Rattle.layout.specs.ReplyLaws.{reply-length}
 use Rattle.layout.specs.States.{decode}
 use Rattle.layout.specs.Stored.{IsStored, Turned, statementOf}
 use Rattle.tuples.specs.Rows.{rows-append}
-use Rattle.replies.specs.Written.{mostReply, reply, Wrote}
+use Rattle.replies.specs.Written.{reply, Wrote}
 use Rattle.records.specs.StoredLaws.{stored-says, said}
 use Rattle.refusals.specs.Refusal.{refusal}
 use Rattle.refusals.specs.Names.{body-head, body-host}

@@ -15,7 +15,7 @@ use Rattle.basis.specs.Choice.{maybe, firstNumber}
 use Rattle.basis.specs.Logic.{not-not}
 use Rattle.basis.specs.ListLaws.{none-at}
 use Rattle.basis.specs.Numbers.{numberAt}
-use Rattle.basis.specs.Sizes.{lastAt, positionWidth, mostWaiting}
+use Rattle.basis.specs.Sizes.{lastAt, positionWidth, mostWaiting, mostReply}
 use Rattle.model.specs.Statement.{Statement, spacesNamed}
 use Rattle.model.specs.Legal.{legalBody}
 use Rattle.model.specs.Writing.{statementBytes}
@@ -29,7 +29,7 @@ use Rattle.layout.specs.Replies.{repliesBytes}
 use Rattle.layout.specs.ReplyLaws.{reply-length}
 use Rattle.layout.specs.States.{decode}
 use Rattle.layout.specs.Stored.{Stored, Turned, statementOf, legal-parse}
-use Rattle.replies.specs.Written.{mostReply, reply}
+use Rattle.replies.specs.Written.{reply}
 use Rattle.records.specs.Queue.{enqueued}
 use Rattle.records.specs.StoredLaws.{stored-says}
 use Rattle.effects.specs.EffectLaws.{last-is}

@@ -5,13 +5,12 @@ ghost use Prim.Native.Nat.{suc, _≤_, _<_};
 ghost use lib.ListN.{length, take};
 ghost use lib.Dec.{T};
 ghost use Rattle.basis.specs.Choice.{firstNumber};
-ghost use Rattle.basis.specs.Sizes.{hosts, markWidth, replySize};
+ghost use Rattle.basis.specs.Sizes.{hosts, markWidth, replySize, replyHeaderSize, mostReply};
 ghost use Rattle.model.specs.Legal.{legalBody};
 ghost use Rattle.model.specs.Step.{RV, CR, MO, MS, DS, AG, markOf, recover, crash, monitor, openSpace, closeSpace, guarded, checks, refused, malformed as malforms, unmet as unmets, effect, handled};
 ghost use Rattle.layout.specs.States.{decode};
 ghost use Rattle.layout.specs.Stored.{IsStored, Turned, statementOf};
 ghost use Rattle.calls.specs.Calls.{numberOf, stepBytes};
-ghost use Rattle.replies.specs.Written.{headSize, mostReply};
 ghost use Rattle.steps.specs.Requests.{fromHost, markNumber, markAt, asked, Later};
 
 // Where MS has its kind, and DS its space.
@@ -21,7 +20,7 @@ const AFTER_PROCESS: usize = words::PROCESS_AT + 2;
 
 // "one reply carries the number, nothing else changes".
 fn refuse(state: &[u8], host: u8, process: u16, outcome: u8, out: &mut [u8]) -> usize
-    requires { ⌜ IsStored (now state) × (headSize ≤ length (now out)) ⌝ }
+    requires { ⌜ IsStored (now state) × (replyHeaderSize ≤ length (now out)) ⌝ }
     ensures { λ r. ⌜ Turned (refused (decode (now (state .entry))) host process outcome) (now (out .entry)) (now (state .entry)) (now (out .exit)) r ⌝ }
 {
     let last = words::word4(state, words::LAST_AT);
@@ -30,7 +29,7 @@ fn refuse(state: &[u8], host: u8, process: u16, outcome: u8, out: &mut [u8]) -> 
 
 // A statement refused: its body begins with host and process.
 fn refuse_body(state: &[u8], body: &[u8], outcome: u8, out: &mut [u8]) -> usize
-    requires { ⌜ IsStored (now state) × T (legalBody (now body)) × (headSize ≤ length (now out)) ⌝ }
+    requires { ⌜ IsStored (now state) × T (legalBody (now body)) × (replyHeaderSize ≤ length (now out)) ⌝ }
     ensures { λ r. ⌜ Turned (refused (decode (now (state .entry))) ((statementOf (now (body .entry))) .host) ((statementOf (now (body .entry))) .process) outcome) (now (out .entry)) (now (state .entry)) (now (out .exit)) r ⌝ }
 {
     refuse(
@@ -46,7 +45,7 @@ fn refuse_body(state: &[u8], body: &[u8], outcome: u8, out: &mut [u8]) -> usize
 
 // No guard holds: 18 where none is in or rd, 13 where 32 wait, else the statement waits without a reply.
 fn unmet(state: &mut [u8], body: &[u8], out: &mut [u8]) -> usize
-    requires { ⌜ IsStored (now state) × T (legalBody (now body)) × Later (decode (now state)) × (firstNumber (checks (decode (now state)) (guarded (statementOf (now body)))) ≡ none) × (headSize ≤ length (now out)) ⌝ }
+    requires { ⌜ IsStored (now state) × T (legalBody (now body)) × Later (decode (now state)) × (firstNumber (checks (decode (now state)) (guarded (statementOf (now body)))) ≡ none) × (replyHeaderSize ≤ length (now out)) ⌝ }
     ensures { λ r. ⌜ Turned (unmets (decode (now (state .entry))) (statementOf (now (body .entry)))) (now (out .entry)) (now (state .exit)) (now (out .exit)) r ⌝ }
 {
     if !engine::can_wait(body) {

@@ -8,7 +8,7 @@ use mathlib.Core.List.{List, [], _∷_, _++_, flatMap, append-nil}
 use lib.ListN.{length, getD, length-append}
 use lib.Dec.{eqb}
 use Rattle.basis.specs.Choice.{maybe}
-use Rattle.basis.specs.Sizes.{variables}
+use Rattle.basis.specs.Sizes.{variables, mostReply}
 use Rattle.model.specs.Value.{Value, value}
 use Rattle.model.specs.Statement.{Statement}
 use Rattle.model.specs.Execution.{Executed, attempt, tuplesAfter}
@@ -17,7 +17,7 @@ use Rattle.model.specs.Run.{Run, withTuples, Reply, outcomeOf, valuesOf, ranRep
 use Rattle.layout.specs.Replies.{replyBytes, repliesBytes}
 use Rattle.layout.specs.ReplyLaws.{reply-length}
 use Rattle.layout.specs.Stored.{Stored, Turned}
-use Rattle.replies.specs.Written.{mostReply, boundTo, reply, ranValues, Wrote}
+use Rattle.replies.specs.Written.{boundTo, reply, ranValues, Wrote}
 use Rattle.wakes.specs.Turned.{still, executed, Left}
 
 -- ---- no reply, and one

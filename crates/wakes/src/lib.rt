@@ -6,7 +6,8 @@ ghost use Rattle.model.specs.Execution.{attempt};
 ghost use Rattle.model.specs.Run.{settle as settles};
 ghost use Rattle.layout.specs.States.{decode};
 ghost use Rattle.layout.specs.Stored.{IsStored, Turned, statementOf};
-ghost use Rattle.replies.specs.Written.{mostReply, ranValues};
+ghost use Rattle.basis.specs.Sizes.{mostReply};
+ghost use Rattle.replies.specs.Written.{ranValues};
 ghost use Rattle.wakes.specs.Turned.{Further, MayRun, executed, Left, readyAt, oldestReady, wokenAt, woken};
 use engine::Ran;
 

@@ -6,7 +6,7 @@ use lib.ListN.{length, length-drop}
 use borrow.Author.Needs.{needs}
 use borrow.Rule.Slice.PartMut.{same-len-mid}
 use Rattle.layout.specs.States.{decode}
-use Rattle.replies.specs.Written.{mostReply}
+use Rattle.basis.specs.Sizes.{mostReply}
 use Rattle.layout.specs.Stored.{IsStored}
 use Rattle.records.specs.StoredLaws.{said, stored-length}
 use Rattle.wakes.specs.Settling.{Midway, midway-start, rest-lent, turn-shorter, turn-more, turn-end}

@@ -1,0 +1,55 @@
+-- The state buffer as a list of parts: the rows of the header, its unused bytes, and the sections. Assumes nothing.
+use Prim.Native.Nat.{ℕ, _-_}
+use mathlib.Core.List.{List, [], _∷_}
+use lib.ListN.{length}
+use Rattle.basis.specs.Lists.{zeros}
+use Rattle.basis.specs.Numbers.{bigEndian, mask}
+use Rattle.basis.specs.Sizes.{markWidth, positionWidth, maskWidth, countWidth, nextWidth, tupleCountWidth, headerUsed, headerSize, spaceSize, tupleSize, waitingSize, spacesSize, tuplesSize, waitingAllSize}
+use Rattle.model.specs.Run.{Run}
+use Rattle.layout.specs.States.{stateMark, spaceBytes, tupleBytes, waitingBytes, area}
+use Rattle.sections.specs.Parts.{Parts}
+
+-- mark, last position, mask, monitors, next space number, counts of spaces, tuples and waiting, unused; spaces, tuples, waiting
+abbrev pub widths : List ℕ
+widths = markWidth ∷ positionWidth ∷ maskWidth ∷ countWidth ∷ nextWidth ∷ countWidth ∷ tupleCountWidth ∷ countWidth ∷ (headerSize - headerUsed) ∷ spacesSize ∷ tuplesSize ∷ waitingAllSize ∷ []
+
+unfoldable pub partsOf : Run → List (List ℕ)
+partsOf s =
+    stateMark ∷ bigEndian positionWidth (s .last) ∷ bigEndian maskWidth (mask (s .up)) ∷ (s .monitors ∷ []) ∷ bigEndian nextWidth (s .next)
+    ∷ (length (s .spaces) ∷ []) ∷ bigEndian tupleCountWidth (length (s .tuples)) ∷ (length (s .waiting) ∷ []) ∷ zeros (headerSize - headerUsed)
+    ∷ area spacesSize spaceSize spaceBytes (s .spaces) ∷ area tuplesSize tupleSize tupleBytes (s .tuples) ∷ area waitingAllSize waitingSize waitingBytes (s .waiting) ∷ []
+
+-- which part is which
+abbrev pub lastPart : ℕ
+lastPart = 1
+
+abbrev pub maskPart : ℕ
+maskPart = 2
+
+abbrev pub monitorsPart : ℕ
+monitorsPart = 3
+
+abbrev pub nextPart : ℕ
+nextPart = 4
+
+abbrev pub spaceCountPart : ℕ
+spaceCountPart = 5
+
+abbrev pub tupleCountPart : ℕ
+tupleCountPart = 6
+
+abbrev pub waitingCountPart : ℕ
+waitingCountPart = 7
+
+abbrev pub spacesPart : ℕ
+spacesPart = 9
+
+abbrev pub tuplesPart : ℕ
+tuplesPart = 10
+
+abbrev pub waitingPart : ℕ
+waitingPart = 11
+
+-- b is these parts
+abbrev pub Cut : List ℕ → List (List ℕ) → Type 0
+Cut b ps = Parts widths b ps

@@ -1,0 +1,119 @@
+// The header of a state, row by row: "last position taken (4), hosts-up mask (2, bit h for host h), monitors, next space number (2),
+// counts of spaces, tuples (2), waiting". Only here is it said where a row stands.
+ghost use mathlib.Core.Path.{_≡_};
+ghost use Prim.Native.Nat.{_≤_, _<_};
+ghost use lib.ListN.{length};
+ghost use Rattle.basis.specs.Numbers.{bigEndian, numberAt, bits};
+ghost use Rattle.basis.specs.Sizes.{positionWidth, maskWidth, countWidth, nextWidth, tupleCountWidth, hosts, mostMonitors, mostSpaces, mostTuples, mostWaiting, lastAt, maskAt, monitorsAt, nextAt, spaceCountAt, tupleCountAt, waitingCountAt, headerSize};
+ghost use Rattle.layout.specs.States.{decode};
+ghost use Rattle.words.specs.Over.{over};
+
+// "last position taken (4)".
+pub fn last(state: &[u8]) -> u32
+    requires { ⌜ headerSize ≤ length (now state) ⌝ }
+    ensures { λ r. ⌜ (r ≡ (decode (now (state .entry))) .last) × (r ≡ numberAt lastAt positionWidth (now (state .entry))) ⌝ }
+{
+    words::number(state, words::LAST_AT, words::POSITION_WIDTH)
+}
+
+pub fn set_last(state: &mut [u8], position: u32)
+    requires { ⌜ headerSize ≤ length (now state) ⌝ }
+    ensures { λ _. ⌜ now (state .exit) ≡ over (now (state .entry)) lastAt (bigEndian positionWidth position) positionWidth ⌝ }
+{
+    words::put_number(state, words::LAST_AT, words::POSITION_WIDTH, position);
+}
+
+// "hosts-up mask (2, bit h for host h)".
+pub fn hosts(state: &[u8]) -> u16
+    requires { ⌜ headerSize ≤ length (now state) ⌝ }
+    ensures { λ r. ⌜ (bits hosts r ≡ (decode (now (state .entry))) .up) × (r ≡ numberAt maskAt maskWidth (now (state .entry))) ⌝ }
+{
+    words::number(state, words::MASK_AT, words::MASK_WIDTH) as u16
+}
+
+pub fn set_hosts(state: &mut [u8], mask: u16)
+    requires { ⌜ headerSize ≤ length (now state) ⌝ }
+    ensures { λ _. ⌜ now (state .exit) ≡ over (now (state .entry)) maskAt (bigEndian maskWidth mask) maskWidth ⌝ }
+{
+    words::put_number(state, words::MASK_AT, words::MASK_WIDTH, mask as u32);
+}
+
+// "monitors".
+pub fn monitors(state: &[u8]) -> usize
+    requires { ⌜ headerSize ≤ length (now state) ⌝ }
+    ensures { λ r. ⌜ (r ≡ (decode (now (state .entry))) .monitors) × (r ≡ numberAt monitorsAt countWidth (now (state .entry))) ⌝ }
+{
+    words::number(state, words::MONITORS_AT, words::COUNT_WIDTH) as usize
+}
+
+pub fn set_monitors(state: &mut [u8], n: usize)
+    requires { ⌜ (headerSize ≤ length (now state)) × (n ≤ mostMonitors) ⌝ }
+    ensures { λ _. ⌜ now (state .exit) ≡ over (now (state .entry)) monitorsAt (bigEndian countWidth n) countWidth ⌝ }
+{
+    words::put_number(state, words::MONITORS_AT, words::COUNT_WIDTH, n as u32);
+}
+
+// "next space number (2)".
+pub fn next(state: &[u8]) -> u32
+    requires { ⌜ headerSize ≤ length (now state) ⌝ }
+    ensures { λ r. ⌜ (r ≡ (decode (now (state .entry))) .next) × (r ≡ numberAt nextAt nextWidth (now (state .entry))) ⌝ }
+{
+    words::number(state, words::NEXT_AT, words::NEXT_WIDTH)
+}
+
+pub fn set_next(state: &mut [u8], number: u32)
+    requires { ⌜ headerSize ≤ length (now state) ⌝ }
+    ensures { λ _. ⌜ now (state .exit) ≡ over (now (state .entry)) nextAt (bigEndian nextWidth number) nextWidth ⌝ }
+{
+    words::put_number(state, words::NEXT_AT, words::NEXT_WIDTH, number);
+}
+
+// "counts of spaces".
+pub fn space_count(state: &[u8]) -> usize
+    requires { ⌜ headerSize ≤ length (now state) ⌝ }
+    ensures { λ r. ⌜ (r ≡ length ((decode (now (state .entry))) .spaces)) × (r ≡ numberAt spaceCountAt countWidth (now (state .entry))) ⌝ }
+{
+    words::number(state, words::SPACE_COUNT_AT, words::COUNT_WIDTH) as usize
+}
+
+pub fn set_space_count(state: &mut [u8], n: usize)
+    requires { ⌜ (headerSize ≤ length (now state)) × (n ≤ mostSpaces) ⌝ }
+    ensures { λ _. ⌜ now (state .exit) ≡ over (now (state .entry)) spaceCountAt (bigEndian countWidth n) countWidth ⌝ }
+{
+    words::put_number(state, words::SPACE_COUNT_AT, words::COUNT_WIDTH, n as u32);
+}
+
+// "tuples (2)".
+pub fn tuple_count(state: &[u8]) -> usize
+    requires { ⌜ headerSize ≤ length (now state) ⌝ }
+    ensures { λ r. ⌜ (r ≡ length ((decode (now (state .entry))) .tuples)) × (r ≡ numberAt tupleCountAt tupleCountWidth (now (state .entry))) ⌝ }
+{
+    words::number(state, words::TUPLE_COUNT_AT, words::TUPLE_COUNT_WIDTH) as usize
+}
+
+pub fn set_tuple_count(state: &mut [u8], n: usize)
+    requires { ⌜ (headerSize ≤ length (now state)) × (n ≤ mostTuples) ⌝ }
+    ensures { λ _. ⌜ now (state .exit) ≡ over (now (state .entry)) tupleCountAt (bigEndian tupleCountWidth n) tupleCountWidth ⌝ }
+{
+    words::put_number(
+        state,
+        words::TUPLE_COUNT_AT,
+        words::TUPLE_COUNT_WIDTH,
+        n as u32,
+    );
+}
+
+// "waiting".
+pub fn waiting_count(state: &[u8]) -> usize
+    requires { ⌜ headerSize ≤ length (now state) ⌝ }
+    ensures { λ r. ⌜ (r ≡ length ((decode (now (state .entry))) .waiting)) × (r ≡ numberAt waitingCountAt countWidth (now (state .entry))) ⌝ }
+{
+    words::number(state, words::WAITING_COUNT_AT, words::COUNT_WIDTH) as usize
+}
+
+pub fn set_waiting_count(state: &mut [u8], n: usize)
+    requires { ⌜ (headerSize ≤ length (now state)) × (n ≤ mostWaiting) ⌝ }
+    ensures { λ _. ⌜ now (state .exit) ≡ over (now (state .entry)) waitingCountAt (bigEndian countWidth n) countWidth ⌝ }
+{
+    words::put_number(state, words::WAITING_COUNT_AT, words::COUNT_WIDTH, n as u32);
+}

@@ -1,0 +1,3 @@
+pub mod Queue
+pub mod QueueLaws
+pub mod PlaceLaws

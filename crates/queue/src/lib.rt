@@ -1,0 +1,103 @@
+// The waiting statements of a state: rows that say position, length and body, rising by position.
+ghost use mathlib.Core.Path.{_≡_};
+ghost use Prim.Native.Nat.{_+_, _-_, _*_, _≤_, _<_};
+ghost use mathlib.Core.List.{[], _∷_, _++_};
+ghost use lib.ListN.{length};
+ghost use lib.Dec.{T};
+ghost use Rattle.basis.specs.Lists.{any, keep, pad, removeAt};
+ghost use Rattle.basis.specs.Numbers.{numberAt};
+ghost use Rattle.basis.specs.Sizes.{positionWidth, lengthWidth, mostBody, mostWaiting, waitingLengthAt, waitingBodyAt, waitingSize};
+ghost use Rattle.model.specs.Legal.{legalBody};
+ghost use Rattle.layout.specs.Stored.{statementOf};
+ghost use Rattle.queue.specs.Queue.{waitingOf, Queued, IsQueued, ofOther, ofProcess, waits};
+ghost use Rattle.queue.specs.QueueLaws.{rowBytes};
+
+const ROW: usize = words::WAITING;
+
+// ---- where the parts of a row stand
+
+// The position of the waiting statement at index i.
+pub fn position(waiting: &[u8], i: usize) -> u32
+    requires { ⌜ (i + 1) * waitingSize ≤ length (now waiting) ⌝ }
+    ensures { λ r. ⌜ r ≡ numberAt (i * waitingSize) positionWidth (now (waiting .entry)) ⌝ }
+{
+    words::word4(waiting, i * ROW)
+}
+
+// Where its body begins.
+pub fn body_at(i: usize) -> usize
+    requires { ⌜ i < mostWaiting ⌝ }
+    ensures { λ r. ⌜ r ≡ i * waitingSize + waitingBodyAt ⌝ }
+{
+    i * ROW + words::WAITING_BODY_AT
+}
+
+// The length of its body.
+pub fn body_length(waiting: &[u8], i: usize) -> usize
+    requires { ⌜ (i + 1) * waitingSize ≤ length (now waiting) ⌝ }
+    ensures { λ r. ⌜ (r ≡ numberAt (i * waitingSize + waitingLengthAt) lengthWidth (now (waiting .entry))) × (r < 65536) ⌝ }
+{
+    words::word2(waiting, i * ROW + words::WAITING_LENGTH_AT) as usize
+}
+
+// ---- the queue
+
+// "runs and leaves the queue": the waiting statement at index i.
+pub fn leave(waiting: &mut [u8], n: usize, i: usize)
+    requires { ⌜ IsQueued (now waiting) n × (i < n) ⌝ }
+    ensures { λ _. ⌜ Queued (now (waiting .exit)) (n - 1) (removeAt i (waitingOf (now (waiting .entry)) n)) ⌝ }
+{
+    sections::cut(waiting, ROW, n, i);
+}
+
+// "drops that host's waiting statements": the count of those left.
+pub fn drop_host(waiting: &mut [u8], n: usize, host: u8) -> usize
+    requires { ⌜ IsQueued (now waiting) n ⌝ }
+    ensures { λ r. ⌜ Queued (now (waiting .exit)) r (keep (ofOther host) (waitingOf (now (waiting .entry)) n)) ⌝ }
+{
+    sections::drop_rows(
+        waiting,
+        ROW,
+        n,
+        words::WAITING_BODY_AT,
+        words::HOST_WIDTH,
+        host as u32,
+    )
+}
+
+// Whether a process waits.
+pub fn process_waits(waiting: &[u8], n: usize, process: u16) -> bool
+    requires { ⌜ IsQueued (now waiting) n ⌝ }
+    ensures { λ r. ⌜ r ≡ any (ofProcess process) (waitingOf (now (waiting .entry)) n) ⌝ }
+{
+    sections::find(
+        waiting,
+        ROW,
+        n,
+        words::WAITING_BODY_AT + words::PROCESS_AT,
+        words::PROCESS_WIDTH,
+        process as u32,
+    )
+        < n
+}
+
+// A waiting statement's row: "position, body length 2, body".
+fn row(position: u32, body: &[u8]) -> [u8; ROW]
+    requires { ⌜ length (now body) ≤ mostBody ⌝ }
+    ensures { λ r. ⌜ r ≡ pad waitingSize (rowBytes position (now (body .entry))) ⌝ }
+{
+    let mut row = [0u8; ROW];
+    words::put4(&mut row, 0, position);
+    words::put2(&mut row, words::WAITING_LENGTH_AT, body.len() as u16);
+    words::copy_at(&mut row, words::WAITING_BODY_AT, body);
+    row
+}
+
+// The statement "waits without a reply".
+pub fn enqueue(waiting: &mut [u8], n: usize, position: u32, body: &[u8])
+    requires { ⌜ IsQueued (now waiting) n × (n < mostWaiting) × T (legalBody (now body)) ⌝ }
+    ensures { λ _. ⌜ Queued (now (waiting .exit)) (n + 1) (waitingOf (now (waiting .entry)) n ++ (waits position (statementOf (now (body .entry))) ∷ [])) ⌝ }
+{
+    let row = row(position, body);
+    sections::append(waiting, ROW, n, &row);
+}

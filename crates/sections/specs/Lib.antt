@@ -1,0 +1,5 @@
+pub mod Rows
+pub mod RowLaws
+pub mod Loops
+pub mod Kinds
+pub mod Parts
