@@ -7,6 +7,7 @@ pub mod lent;
 pub mod library;
 pub mod measured;
 pub mod program;
+pub mod ratios;
 pub mod replica;
 pub mod rows;
 pub mod stack;

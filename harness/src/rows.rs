@@ -1,6 +1,6 @@
 //! Calls that go deep or take long: the rows of the benchmark, on which the stack is measured too.
 
-use crate::states::{self, any, branch, given, operation, statement};
+use crate::states::{self, any, branch, given, naming, operation, put, scattered, statement, LAST};
 use reference::generate::join;
 use reference::generate::statements::wide;
 use reference::run::{Run, Space, Tuple, Waiting};
@@ -13,13 +13,20 @@ pub struct Row {
     pub states: Vec<Vec<u8>>,
     pub record: Vec<u8>,
     pub reply_length: usize,
+    /// A check of its states is so short that many must be timed at once.
+    pub is_brief: bool,
+}
+
+/// A body as the next record of these runs.
+fn marked(name: &'static str, runs: &[Run], mark: [u8; 2], body: &[u8]) -> Row {
+    let record = join(mark, runs[0].last + 1, body);
+    let is_brief = runs[0].tuples.len() < 2 && runs[0].waiting.is_empty();
+    Row { name, states: runs.iter().map(states::bytes).collect(), record, reply_length: 3_564, is_brief }
 }
 
 /// The statement of host 2, process 7, as the next record of these runs.
 fn row(name: &'static str, runs: &[Run], branches: Vec<Branch>) -> Row {
-    let body = statement::write(&statement(2, 7, branches));
-    let record = join(*b"AG", runs[0].last + 1, &body);
-    Row { name, states: runs.iter().map(states::bytes).collect(), record, reply_length: 3_564 }
+    marked(name, runs, *b"AG", &statement::write(&statement(2, 7, branches)))
 }
 
 fn always(body: Vec<Operation>) -> Vec<Branch> {
@@ -90,9 +97,28 @@ fn moves_and_wakes() -> Vec<Row> {
     ]
 }
 
+/// 32 spaces are open, and what names them names now a low and now a high one.
+fn many_spaces() -> Vec<Row> {
+    let (full, crowd) = (states::spread(512), states::many_names());
+    let newest = &full.tuples[511];
+    let takes = vec![branch(operation(IN, &[newest.space], given(&newest.values)), vec![])];
+    let puts = |from: usize, to: usize| always((from..to).map(put).collect());
+    let twelve = [naming(3, 0), puts(9, 12)].concat();
+    let closes =
+        |name, run: &Run| marked(name, std::slice::from_ref(run), *b"DS", &[2, 0, 7, scattered(LAST)]);
+    vec![
+        row("32 spaces, 512 tuples, in of the newest", std::slice::from_ref(&full), takes),
+        row("32 spaces, 504 tuples, outs to 8 of them", &[states::spread(504)], puts(0, 8)),
+        row("32 spaces, body that names 12 of them", &[states::spread(0)], twelve),
+        row("32 spaces, 31 waiting name 12 each, out", std::slice::from_ref(&crowd), puts(0, 1)),
+        closes("32 spaces, 512 tuples, DS of the last", &full),
+        closes("32 spaces, 31 waiting name 12 each, DS", &crowd),
+    ]
+}
+
 /// Records that are taken.
 pub fn taken() -> Vec<Row> {
-    let rows = [near_empty(), many_tuples(), many_guards(), moves_and_wakes()];
+    let rows = [near_empty(), many_tuples(), many_guards(), moves_and_wakes(), many_spaces()];
     rows.into_iter().flatten().collect()
 }
 

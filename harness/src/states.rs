@@ -127,11 +127,15 @@ pub fn full() -> Run {
 
 // ---- States to time calls on ----
 
-/// 512 tuples of one shape, (name 7, whole, metres).
+/// (name 7, this whole number, metres 1).
+fn shaped(space: u8, number: usize) -> Tuple {
+    tuple(space, &[name(7), whole(number as i32), metres(0x3F80_0000)])
+}
+
+/// 512 tuples of one shape.
 pub fn regular() -> Run {
     let mut run = near_empty();
-    let shaped = |number| tuple(0, &[name(7), whole(number), metres(0x3F80_0000)]);
-    run.tuples = (0..512).map(shaped).collect();
+    run.tuples = (0..512).map(|number| shaped(0, number)).collect();
     run
 }
 
@@ -195,6 +199,45 @@ pub fn crowd(all_variables: bool) -> Run {
     for number in 0..32 {
         let process = 100 + number as u16;
         wait(&mut run, 1 + number, if all_variables { wide(2, process, false) } else { signal(2, process) });
+    }
+    run
+}
+
+// ---- States of 32 spaces ----
+
+/// The 32 spaces are 0, 8, .. 248. Each 32 numbers in a row give all of them, and neighbours lie far apart.
+pub fn scattered(number: usize) -> u8 {
+    (number * 11 % 32 * 8) as u8
+}
+
+/// The place of space 248, the last, among the scattered.
+pub const LAST: usize = 29;
+
+/// Tuples of one shape, as many in each of 32 spaces as in another.
+pub fn spread(tuples: usize) -> Run {
+    let mut run = Run { next: 256, ..near_empty() };
+    run.spaces = (0..32).map(|at| Space { number: at * 8, private: false, owner: 0 }).collect();
+    run.tuples = (0..tuples).map(|number| shaped(scattered(number), number)).collect();
+    run
+}
+
+pub fn put(number: usize) -> Operation {
+    operation(OUT, &[scattered(number)], given(&[name(9)]))
+}
+
+/// Branches with three names each, and none of the last space, that wait for (name 8).
+pub fn naming(count: usize, from: usize) -> Vec<Branch> {
+    let place = |at: usize| (from + at) % LAST;
+    let waits = |at: usize| operation(IN, &[scattered(place(at))], given(&[name(8)]));
+    let three = |at: usize| branch(waits(3 * at), vec![put(place(3 * at + 1)), put(place(3 * at + 2))]);
+    (0..count).map(three).collect()
+}
+
+/// 31 statements wait that name 12 of 32 spaces each.
+pub fn many_names() -> Run {
+    let mut run = Run { last: 1000, ..spread(0) };
+    for number in 0..31 {
+        wait(&mut run, 1 + number as u32, statement(2, 100 + number as u16, naming(4, 5 * number)));
     }
     run
 }

@@ -11,7 +11,7 @@ use lib.Dec.{T, leb, ltb, eqb, leb→le, le→leb, lt→ltb, nleb→lt, nltb→l
 use lib.Pow.{areBytes}
 use Rattle.basis.specs.Choice.{maybe, provided, firstNumber}
 use Rattle.basis.specs.Logic.{is-true, false-is, or-l, or-r}
-use Rattle.basis.specs.Sizes.{markWidth, lengthWidth, positionWidth, lengthAt, positionAt, bodyAt, positions, replySize, stateSize}
+use Rattle.basis.specs.Sizes.{markWidth, lengthWidth, positionWidth, lengthAt, positionAt, bodyAt, positions, replyHeaderSize, replySize, stateSize}
 use Rattle.basis.specs.Numbers.{numberAt}
 use Rattle.basis.specs.NumberLaws.{numberAt-lt, bytes-drop}
 use Rattle.model.specs.Run.{Run, fresh, Reply, Turn}
@@ -145,6 +145,6 @@ pub count-took : (rs : List Reply) (state reply : Bytes) → T (took (record { r
 unfolding took
 count-took rs state reply = go (replies-took rs)
   where
-    go : (length (repliesBytes rs) ≡ 0) ⊎ (12 ≤ length (repliesBytes rs)) → T (eqb (length (repliesBytes rs)) 0 || ltb 5 (length (repliesBytes rs)))
+    go : (length (repliesBytes rs) ≡ 0) ⊎ (replyHeaderSize ≤ length (repliesBytes rs)) → T (eqb (length (repliesBytes rs)) 0 || ltb 5 (length (repliesBytes rs)))
     go (inl e) = or-l (eqb (length (repliesBytes rs)) 0) (ltb 5 (length (repliesBytes rs))) (rw e tt)
     go (inr h) = or-r (eqb (length (repliesBytes rs)) 0) (ltb 5 (length (repliesBytes rs))) (lt→ltb 5 (length (repliesBytes rs)) (omega arith))

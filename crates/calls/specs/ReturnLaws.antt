@@ -11,7 +11,7 @@ use lib.ListN.{length, length-append, length-drop, drop}
 use lib.Dec.{T, leb, ltb}
 use borrow.Author.Tests.{ltb-false}
 use Rattle.basis.specs.Choice.{maybe-ind, cond-ind, firstNumber}
-use Rattle.basis.specs.Sizes.{replySize, mostWaiting}
+use Rattle.basis.specs.Sizes.{mostWaiting, replyHeaderSize, replySize}
 use Rattle.model.specs.Run.{Run, Turn}
 use Rattle.model.specs.Step.{recordOf}
 use Rattle.model.specs.ValidLaws.{valid-waiting-count}
@@ -23,7 +23,7 @@ use Rattle.layout.specs.IsState.{isState}
 use Rattle.calls.specs.Calls.{Bytes, Lent, Answer, numberOf, inTurn, refusalAt, refusal, stepBytes, laidOver, turnedBack, taken, takeCall}
 
 -- a taken call returns no number from 1 to 5
-pub taken-number : (l : Lent) → ((taken l) .returned ≡ 0) ⊎ (12 ≤ (taken l) .returned)
+pub taken-number : (l : Lent) → ((taken l) .returned ≡ 0) ⊎ (replyHeaderSize ≤ (taken l) .returned)
 unfolding taken
 taken-number l = replies-took ((stepBytes (decode (l .state)) (l .input)) .replies)
 

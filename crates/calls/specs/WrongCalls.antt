@@ -13,7 +13,7 @@ use Rattle.basis.specs.Choice.{maybe, firstNumber}
 use Rattle.basis.specs.Logic.{is-true, and-l, and-r}
 use Rattle.basis.specs.Lists.{all, any, keep, zeros}
 use Rattle.basis.specs.ListLaws.{each-nil, each-cons}
-use Rattle.basis.specs.Sizes.{replySize, stateSize}
+use Rattle.basis.specs.Sizes.{replyHeaderSize, replySize, stateSize}
 use Rattle.model.specs.Statement.{Statement}
 use Rattle.model.specs.Run.{Waiting, Run, fresh, withLast, withWaiting, Reply, Turn}
 use Rattle.model.specs.Step.{RV, CR, AG, Record, recordOf, Request, recover, crash, monitor, openSpace, closeSpace, guarded, requestOf, checks, askingHost, askingProcess, refused, malformed, effect, settled, step}
@@ -278,11 +278,11 @@ module _ (work : Run → Record → Turn) (right : work fresh item1 ≡ step fre
 
 pub advancing-shut-out : Answers (callBy merelyAdvances) stream → ⊥
 unfolding computes merelyAdvances item1 item2 run1
-advancing-shut-out = shut-out merelyAdvances refl (λ e. let n : _≡_ {A = ℕ} 0 12 = ap length e in omega arith)
+advancing-shut-out = shut-out merelyAdvances refl (λ e. let n : _≡_ {A = ℕ} 0 replyHeaderSize = ap length e in omega arith)
 
 pub waiting-shut-out : Answers (callBy leavesWaiting) stream → ⊥
 unfolding computes leavesWaiting onStatements statementOf item1 item2 run1
-waiting-shut-out = shut-out leavesWaiting refl (λ e. let n : _≡_ {A = ℕ} 0 12 = ap length e in omega arith)
+waiting-shut-out = shut-out leavesWaiting refl (λ e. let n : _≡_ {A = ℕ} 0 replyHeaderSize = ap length e in omega arith)
 
 -- the outcome stands in byte 9 of a reply, and the run's is 0
 untried-shut-out : (n b : ℕ) → (n ≡ 0 → ⊥) → Answers (callBy (answersUntried n b)) stream → ⊥
@@ -320,19 +320,19 @@ first-count : (takeCall first-call) .returned ≡ 18
 unfolding computes item1
 first-count = sym (ap (λ (a : Answer). a .returned) (callBy-step first-call)) ∙ first-returned step
 
-second-count : (takeCall second-call) .returned ≡ 12
+second-count : (takeCall second-call) .returned ≡ replyHeaderSize
 unfolding computes item1 item2 run1
 second-count = sym (ap (λ (a : Answer). a .returned) (callBy-step second-call)) ∙ second-returned step
 
 -- "works the first record and merely advances afterwards"
 pub advancing-differs : callBy merelyAdvances second-call ≡ takeCall second-call → ⊥
 unfolding computes merelyAdvances item1 item2 run1
-advancing-differs e = let n : _≡_ {A = ℕ} 0 12 = sym (second-returned merelyAdvances) ∙ ap (λ (a : Answer). a .returned) e ∙ second-count in omega arith
+advancing-differs e = let n : _≡_ {A = ℕ} 0 replyHeaderSize = sym (second-returned merelyAdvances) ∙ ap (λ (a : Answer). a .returned) e ∙ second-count in omega arith
 
 -- "leaves every statement waiting"
 pub waiting-differs : callBy leavesWaiting second-call ≡ takeCall second-call → ⊥
 unfolding computes leavesWaiting onStatements statementOf item1 item2 run1
-waiting-differs e = let n : _≡_ {A = ℕ} 0 12 = sym (second-returned leavesWaiting) ∙ ap (λ (a : Answer). a .returned) e ∙ second-count in omega arith
+waiting-differs e = let n : _≡_ {A = ℕ} 0 replyHeaderSize = sym (second-returned leavesWaiting) ∙ ap (λ (a : Answer). a .returned) e ∙ second-count in omega arith
 
 -- "answers 18 or 16 untried": the outcome stands in byte 9
 second-reply : (work : Run → Record → Turn) → take ((callBy work second-call) .returned) ((callBy work second-call) .reply) ≡ repliesBytes ((work run1 item2) .replies)
@@ -358,7 +358,7 @@ pub fixed-differs : (bytes : Bytes) (left : Lent → Bytes) → ((l : Lent) → 
 unfolding fixedReply
 fixed-differs bytes left e =
     let one : length bytes ≡ 18 = ap (λ (a : Answer). a .returned) (e first-call) ∙ first-count in
-    let two : length bytes ≡ 12 = ap (λ (a : Answer). a .returned) (e second-call) ∙ second-count in
+    let two : length bytes ≡ replyHeaderSize = ap (λ (a : Answer). a .returned) (e second-call) ∙ second-count in
     omega arith
 
 -- "one inert"

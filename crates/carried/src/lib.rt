@@ -1,12 +1,13 @@
 // The writer: it holds a lent buffer and its fill, and carries them along from addition to addition.
 ghost use mathlib.Core.Path.{_≡_};
-ghost use Rattle.writer.specs.Writer.{writtenIs, beginOn, addOperation, addBranch};
-ghost use Rattle.carried.specs.Held.{begunOn, operationOn, branchOn, left, shown, onward};
+ghost use Rattle.writer.specs.Writer.{writtenIs, beginOn};
+ghost use Rattle.carried.specs.Held.{begunOn, operationOn, branchOn, shown};
+ghost use Rattle.chains.specs.Chains.{left, operationMore, branchMore};
+use additions::begin_at;
+use additions::branch_at;
+use additions::operation_at;
 use statements::Operation;
 use writer::Added;
-use writer::begin_at;
-use writer::branch_at;
-use writer::operation_at;
 
 // The lent buffer, the count of its filled bytes, and the answer so far: 0 each addition done, else that of the first refusal,
 // 6 or 2.
@@ -30,7 +31,7 @@ pub fn begin<'a>(buffer: &'a mut [u8], host: u8, process: u16, guard: Operation)
 
 // One operation more where the answer so far is 0; else nothing is changed, and that answer stays.
 fn operation_after(buffer: &mut [u8], fill: usize, answer: u8, operation: Operation) -> Added
-    ensures { λ r. ⌜ writtenIs r (now (buffer .exit)) ≡ onward addOperation (left answer fill (now (buffer .entry))) operation ⌝ }
+    ensures { λ r. ⌜ writtenIs r (now (buffer .exit)) ≡ operationMore (left answer fill (now (buffer .entry))) operation ⌝ }
 {
     if answer != 0 {
         return Added { answer, fill };
@@ -40,7 +41,7 @@ fn operation_after(buffer: &mut [u8], fill: usize, answer: u8, operation: Operat
 
 // One branch more where the answer so far is 0; else nothing is changed, and that answer stays.
 fn branch_after(buffer: &mut [u8], fill: usize, answer: u8, guard: Operation) -> Added
-    ensures { λ r. ⌜ writtenIs r (now (buffer .exit)) ≡ onward addBranch (left answer fill (now (buffer .entry))) guard ⌝ }
+    ensures { λ r. ⌜ writtenIs r (now (buffer .exit)) ≡ branchMore (left answer fill (now (buffer .entry))) guard ⌝ }
 {
     if answer != 0 {
         return Added { answer, fill };
@@ -97,7 +98,7 @@ pub fn choice(
     guard2: Operation,
     operation2: Operation,
 ) -> Added
-    ensures { λ r. ⌜ writtenIs r (now (buffer .exit)) ≡ onward addOperation (onward addBranch (onward addOperation (beginOn (now (buffer .entry)) host process guard1) operation1) guard2) operation2 ⌝ }
+    ensures { λ r. ⌜ writtenIs r (now (buffer .exit)) ≡ operationMore (branchMore (operationMore (beginOn (now (buffer .entry)) host process guard1) operation1) guard2) operation2 ⌝ }
 {
     let w = begin(buffer, host, process, guard1);
     let w = operation(w, operation1);

@@ -1,18 +1,16 @@
 // The program `desk`: it writes statements by the writer, runs them through a replica and prints "a line per reply".
 use libc::STDOUT_FILENO;
 use statements::Field;
+use statements::OUT;
 use statements::Operation;
+use statements::TRUE;
 use writer::Added;
 
 // The longest record of a statement: its head, and a body of the greatest length.
 const RECORD: usize = words::BODY_AT + words::MOST_BODY;
 
-// "Codes": 0 true, 1 in, 5 out.
-const TRUE: u8 = 0;
-
+// "Codes": 1 in.
 const IN: u8 = 1;
-
-const OUT: u8 = 5;
 
 // "Fields: form 0 .. Form 1 .. Forms 3 and 4": given, bound, plus and minus.
 const GIVEN: u8 = 0;
@@ -79,8 +77,8 @@ fn write_choice(body: &mut [u8]) -> Added {
 
 // true then out(0, name 8, 41).
 fn write_out(body: &mut [u8]) -> Added {
-    let begun = writer::begin_at(body, 2, 6, always());
-    writer::operation_at(
+    let begun = additions::begin_at(body, 2, 6, always());
+    additions::operation_at(
         body,
         begun.fill,
         operation(OUT, 8, field(GIVEN, WHOLE, 0, 41)),
@@ -89,8 +87,8 @@ fn write_out(body: &mut [u8]) -> Added {
 
 // true then out(0, name 7, variable 0 plus 1): no operation before it binds the variable.
 fn write_unbound(body: &mut [u8]) -> Added {
-    let begun = writer::begin_at(body, 2, 7, always());
-    writer::operation_at(
+    let begun = additions::begin_at(body, 2, 7, always());
+    additions::operation_at(
         body,
         begun.fill,
         operation(OUT, 7, field(PLUS, WHOLE, 0, 1)),
@@ -145,7 +143,7 @@ fn run(state: &mut [u8], position: u32, body: &[u8], added: Added) {
         return;
     }
     let mut again = [0u8; words::MOST_BODY];
-    let n = rewriter::rewrite(&body[..fill], &mut again);
+    let n = copier::rewrite(&body[..fill], &mut again);
     send(state, b"AG", position, &again, n);
 }
 

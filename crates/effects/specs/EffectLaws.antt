@@ -1,10 +1,10 @@
 -- Each effect with its one reply. Assumes nothing.
-use mathlib.Core.Path.{_≡_, refl, ap, subst, _∙_}
+use mathlib.Core.Path.{_≡_, refl, ap, _∙_}
 use Prim.Native.Nat.{ℕ}
 use mathlib.Core.Bool.{Bool}
 use mathlib.Core.List.{List, [], _∷_, flatMap, append-nil}
-use Rattle.basis.specs.Numbers.{numberAt, count, bits}
-use Rattle.basis.specs.Sizes.{positionWidth, maskWidth, lastAt, maskAt, hosts}
+use Rattle.basis.specs.Numbers.{count, bits}
+use Rattle.basis.specs.Sizes.{hosts}
 use Rattle.model.specs.Value.{Value}
 use Rattle.model.specs.Run.{Run, withMonitors, nextMonitor, Reply, Turn}
 use Rattle.model.specs.Step.{Request, recover, crash, monitor, openSpace, closeSpace, askingHost, askingProcess, plainReply, inVariable0, replied, recovered, crashed, opened, closed, effect}
@@ -12,16 +12,7 @@ use Rattle.layout.specs.Replies.{replyBytes, repliesBytes}
 use Rattle.layout.specs.States.{decode}
 use Rattle.replies.specs.Written.{reply, Wrote}
 use Rattle.layout.specs.Stored.{Stored, Turned}
-use Rattle.records.specs.StoredLaws.{stored-says}
-
-pub last-is : (b : List ℕ) → numberAt lastAt positionWidth b ≡ (decode b) .last
-unfolding decode
-last-is b = refl
-
--- the count of hosts up, from the mask that the code reads
-pub count-is : (b : List ℕ) (m n : ℕ) → m ≡ numberAt maskAt maskWidth b → n ≡ count (bits hosts m) → n ≡ count ((decode b) .up)
-unfolding decode
-count-is b m n e f = f ∙ ap (λ (k : ℕ). count (bits hosts k)) e
+use Rattle.header.specs.StoredLaws.{stored-says}
 
 -- a turn of one reply
 one-reply : (t : Turn) (x : Reply) (b entry exit : List ℕ) (n : ℕ) → t .replies ≡ x ∷ [] → Stored b (t .run) → Wrote x entry exit n → Turned t entry b exit n
@@ -57,27 +48,27 @@ crash-answered b b′ entry exit h n k w =
     (ap (λ (s : Run). inVariable0 (count (s .up))) (stored-says b′ (crashed (decode b) h) k)) w
 
 -- MO
-pub monitor-answered : (b b′ entry exit : List ℕ) (h p m position n : ℕ) → Stored b′ (withMonitors (decode b) (nextMonitor (decode b))) → m ≡ nextMonitor (decode b) → position ≡ numberAt lastAt positionWidth b′
+pub monitor-answered : (b b′ entry exit : List ℕ) (h p m position n : ℕ) → Stored b′ (withMonitors (decode b) (nextMonitor (decode b))) → m ≡ nextMonitor (decode b) → position ≡ (decode b′) .last
     → Wrote (reply position h p 0 0 (inVariable0 m)) entry exit n → Turned (effect (decode b) (monitor h p)) entry b′ exit n
 unfolding effect askingHost askingProcess
 monitor-answered b b′ entry exit h p m position n k em el w =
-    replied-as b′ entry exit (withMonitors (decode b) (nextMonitor (decode b))) h p n k (monitor h p) (inVariable0 (nextMonitor (decode b))) (inVariable0 m) position refl refl (el ∙ last-is b′) (ap inVariable0 em) w
+    replied-as b′ entry exit (withMonitors (decode b) (nextMonitor (decode b))) h p n k (monitor h p) (inVariable0 (nextMonitor (decode b))) (inVariable0 m) position refl refl el (ap inVariable0 em) w
 
 -- MS
-pub open-answered : (b b′ entry exit : List ℕ) (h p : ℕ) (isPrivate : Bool) (m position n : ℕ) → Stored b′ (opened (decode b) p isPrivate) → m ≡ (decode b) .next → position ≡ numberAt lastAt positionWidth b′
+pub open-answered : (b b′ entry exit : List ℕ) (h p : ℕ) (isPrivate : Bool) (m position n : ℕ) → Stored b′ (opened (decode b) p isPrivate) → m ≡ (decode b) .next → position ≡ (decode b′) .last
     → Wrote (reply position h p 0 0 (inVariable0 m)) entry exit n → Turned (effect (decode b) (openSpace h p isPrivate)) entry b′ exit n
 unfolding effect askingHost askingProcess
 open-answered b b′ entry exit h p isPrivate m position n k em el w =
-    replied-as b′ entry exit (opened (decode b) p isPrivate) h p n k (openSpace h p isPrivate) (inVariable0 ((decode b) .next)) (inVariable0 m) position refl refl (el ∙ last-is b′) (ap inVariable0 em) w
+    replied-as b′ entry exit (opened (decode b) p isPrivate) h p n k (openSpace h p isPrivate) (inVariable0 ((decode b) .next)) (inVariable0 m) position refl refl el (ap inVariable0 em) w
 
 -- DS
-pub close-answered : (b b′ entry exit : List ℕ) (h p m position n : ℕ) → Stored b′ (closed (decode b) m) → position ≡ numberAt lastAt positionWidth b′
+pub close-answered : (b b′ entry exit : List ℕ) (h p m position n : ℕ) → Stored b′ (closed (decode b) m) → position ≡ (decode b′) .last
     → Wrote (reply position h p 0 0 []) entry exit n → Turned (effect (decode b) (closeSpace h p m)) entry b′ exit n
 unfolding effect askingHost askingProcess
 close-answered b b′ entry exit h p m position n k el w =
-    replied-as b′ entry exit (closed (decode b) m) h p n k (closeSpace h p m) [] [] position refl refl (el ∙ last-is b′) refl w
+    replied-as b′ entry exit (closed (decode b) m) h p n k (closeSpace h p m) [] [] position refl refl el refl w
 
 -- the position and the count that the code reads
-pub up-answered : (b entry exit : List ℕ) (position m c h n : ℕ) → position ≡ numberAt lastAt positionWidth b → m ≡ numberAt maskAt maskWidth b → c ≡ count (bits hosts m)
+pub up-answered : (b entry exit : List ℕ) (position m c h n : ℕ) → position ≡ (decode b) .last → bits hosts m ≡ (decode b) .up → c ≡ count (bits hosts m)
     → Wrote (reply position h 0 0 0 (inVariable0 c)) entry exit n → Wrote (reply ((decode b) .last) h 0 0 0 (inVariable0 (count ((decode b) .up)))) entry exit n
-up-answered b entry exit position m c h n el em ec w = subst (λ (x : ℕ × ℕ). Wrote (reply (x .0) h 0 0 0 (inVariable0 (x .1))) entry exit n) (λ i. ((el ∙ last-is b) i, count-is b m c em ec i)) w
+up-answered b entry exit position m c h n el em ec w = let counted : c ≡ count ((decode b) .up) = ec ∙ ap count em in rw (el, counted) at w

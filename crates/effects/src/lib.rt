@@ -17,8 +17,9 @@ fn answer_up(state: &[u8], out: &mut [u8], host: u8) -> usize
     requires { ⌜ IsStored (now state) × (replyHeaderSize + replyValueSize ≤ length (now out)) ⌝ }
     ensures { λ r. ⌜ Wrote (reply ((decode (now (state .entry))) .last) host 0 0 0 (inVariable0 (count ((decode (now (state .entry))) .up)))) (now (out .entry)) (now (out .exit)) r ⌝ }
 {
-    let up = values::hosts_up(words::word2(state, words::MASK_AT));
-    replies::number_reply(out, words::word4(state, words::LAST_AT), host, 0, up)
+    let up = values::hosts_up(header::hosts(state));
+    let last = header::last(state);
+    replies::number_reply(out, last, host, 0, up)
 }
 
 // RV: "the host is up".
@@ -26,7 +27,7 @@ pub fn take_recover(state: &mut [u8], out: &mut [u8], host: u8) -> usize
     requires { ⌜ IsStored (now state) × (host < hosts) × (hostUp (decode (now state)) host ≡ false) × (replyHeaderSize + replyValueSize ≤ length (now out)) ⌝ }
     ensures { λ r. ⌜ Turned (effect (decode (now (state .entry))) (recover host)) (now (out .entry)) (now (state .exit)) (now (out .exit)) r ⌝ }
 {
-    records::recover(state, host);
+    state::recover(state, host);
     answer_up(state, out, host)
 }
 
@@ -36,7 +37,7 @@ pub fn take_crash(state: &mut [u8], out: &mut [u8], host: u8) -> usize
         × (length ((decode (now state)) .tuples) + length (failureTuples (decode (now state)) host) ≤ mostTuples) × (replyHeaderSize + replyValueSize ≤ length (now out)) ⌝ }
     ensures { λ r. ⌜ Turned (effect (decode (now (state .entry))) (crash host)) (now (out .entry)) (now (state .exit)) (now (out .exit)) r ⌝ }
 {
-    records::crash(state, host);
+    state::crash(state, host);
     answer_up(state, out, host)
 }
 
@@ -45,9 +46,9 @@ pub fn take_monitor(state: &mut [u8], out: &mut [u8], host: u8, process: u16) ->
     requires { ⌜ IsStored (now state) × T (not (monitorsUsedUp (decode (now state)))) × (replyHeaderSize + replyValueSize ≤ length (now out)) ⌝ }
     ensures { λ r. ⌜ Turned (effect (decode (now (state .entry))) (monitor host process)) (now (out .entry)) (now (state .exit)) (now (out .exit)) r ⌝ }
 {
-    let n = records::monitor(state);
-    let last = words::word4(state, words::LAST_AT);
-    replies::number_reply(out, last, host, process, n as u32)
+    let n = state::monitor(state);
+    let last = header::last(state);
+    replies::number_reply(out, last, host, process, n)
 }
 
 // MS: "opens the next space number".
@@ -56,17 +57,17 @@ pub fn take_open(state: &mut [u8], out: &mut [u8], host: u8, process: u16, owned
         × (replyHeaderSize + replyValueSize ≤ length (now out)) ⌝ }
     ensures { λ r. ⌜ Turned (effect (decode (now (state .entry))) (openSpace host process owned)) (now (out .entry)) (now (state .exit)) (now (out .exit)) r ⌝ }
 {
-    let n = records::open_space(state, process, owned);
-    let last = words::word4(state, words::LAST_AT);
-    replies::number_reply(out, last, host, process, n as u32)
+    let n = state::open_space(state, process, owned);
+    let last = header::last(state);
+    replies::number_reply(out, last, host, process, n)
 }
 
 // DS: "closes a space, with its tuples".
-pub fn take_close(state: &mut [u8], out: &mut [u8], host: u8, process: u16, space: u8) -> usize
+pub fn take_close(state: &mut [u8], out: &mut [u8], host: u8, process: u16, space: u16) -> usize
     requires { ⌜ IsStored (now state) × T (not (eqb space 0 || someWaitingNames (decode (now state)) space)) × (replyHeaderSize ≤ length (now out)) ⌝ }
     ensures { λ r. ⌜ Turned (effect (decode (now (state .entry))) (closeSpace host process space)) (now (out .entry)) (now (state .exit)) (now (out .exit)) r ⌝ }
 {
-    records::close_space(state, space);
-    let last = words::word4(state, words::LAST_AT);
+    state::close_space(state, space);
+    let last = header::last(state);
     replies::plain_reply(out, last, host, process, 0)
 }

@@ -20,38 +20,15 @@ use Rattle.model.specs.Matching.{Tuple, Bindings}
 use Rattle.model.specs.Execution.{Result, done, failed, perform, andThen, performAll}
 use Rattle.model.specs.BoundKinds.{Agree}
 use Rattle.statements.specs.declared.OperationRead.{OperationRead}
-use Rattle.statements.specs.At.{placed, readAt, passed, found, Suffix, suffix-at}
-use Rattle.statements.specs.Flat.{operationIs, readIs, Reads, fewFields, operationAt}
-use Rattle.statements.specs.Operations.{suffix-operation}
+use Rattle.statements.specs.Flat.{operationIs, Reads, operationAt}
 use Rattle.tuples.specs.Section as Section
 use Rattle.tuples.specs.Section.{tuplesOf}
-use Rattle.engine.specs.declared.Vars.{Vars}
-use Rattle.engine.specs.Variables.{bindingsOf}
-use Rattle.engine.specs.Performing.{resultIs, Leaves, leaves-done, leaves-failed}
-use Rattle.engine.specs.Codes.{CanPerform}
+use Rattle.bindings.specs.declared.Vars.{Vars}
+use Rattle.bindings.specs.Variables.{bindingsOf}
+use Rattle.operations.specs.Performing.{resultIs, Leaves, leaves-done, leaves-failed}
+use Rattle.operations.specs.Codes.{CanPerform}
+use Rattle.guards.specs.Placed.{IsRead, is-read, legal-few}
 use Rattle.engine.specs.Legality.{can-perform, AgreeAfter, perform-agrees}
-
--- ---- one operation
-
--- what the code read is the operation that stands there, and the position after it
-pub record IsRead (b : List ℕ) (at : ℕ) (o : Model.Operation) (rest : List ℕ) (r : OperationRead) : Type 0 where
-  pub is : operationIs (r .operation) ≡ o
-  pub left : drop (r .end) b ≡ rest
-  pub within : r .end ≤ length b
-
-found-is : {A : Type 0} (n end : ℕ) (x a : A) → found n x ≡ some (a, end) → (x ≡ a) × (n ≡ end)
-unfolding found
-found-is {A} zero end x a e = absurd (Option·none-ne-some (a, end) e)
-found-is {A} (suc n) end x a e =
-    let q = Option·some-injective (x, suc n) (a, end) e in
-    (ap (λ (y : A × ℕ). y .0) q, ap (λ (y : A × ℕ). y .1) q)
-
-pub is-read : (b : List ℕ) (at : ℕ) (o : Model.Operation) (left : List ℕ) (r : OperationRead) → operation (drop at b) ≡ some (o, left) → T (fewFields o) → Reads r (operationAt b at) → IsRead b at o left r
-unfolding operationAt passed readAt provided readIs
-is-read b at o left r e t h =
-    let all : operationAt b at ≡ some (o, length b - length left) = rw (e, is-true (fewFields o) t) in
-    let q = found-is (r .end) (length b - length left) (operationIs (r .operation)) o (h .is ∙ all) in
-    record { is = q .0; left = ap (λ (n : ℕ). drop n b) (q .1) ∙ suffix-at operation suffix-operation b at o left e; within = omega (arith, q .1) }
 
 -- ---- several of them
 
@@ -120,14 +97,6 @@ split b at count bs h =
         (y : Turns (several operation count) (λ l. give (x .item ∷ l)) (x .left) (operationsAt b at (suc count), h .rest))
         → give (x .item ∷ y .item) (y .left) ≡ some (operationsAt b at (suc count), h .rest) → Split b at count bs
     go x y e = split-at b at count bs h (x .item) (x .left) (y .item) (y .left) (x .first) (y .first) e
-
--- a legal operation has at most six fields
-pub legal-few : (ks : Kinds) (o : Model.Operation) → T (legalOperation ks o) → T (fewFields o)
-unfolding legalOperation fewFields fieldsOf fieldCount
-legal-few ks always t = tt
-legal-few ks (lookup withdraws blocks s fs) t = search (and-l, and-r, t) depth 6
-legal-few ks (deposit s fs) t = search (and-l, and-r, t) depth 6
-legal-few ks (transfer withdraws from to fs) t = search (and-l, and-r, t) depth 6
 
 -- ---- performing them
 
@@ -199,5 +168,5 @@ module _ (b : List ℕ) (x : Result) (p : List ℕ) (n : ℕ) (w : Vars) (at cou
 
       pub running-turn : outcome ≡ 0 → Running b x q n′ w′ (r .end) m
       running-turn z =
-          let y = all-after b at m (bindingsOf w) to-come r e (tuplesOf p n) n′ w′ q outcome d z (h .section .legal) in
+          let y = all-after b at m (bindingsOf w) to-come r e (tuplesOf p n) n′ w′ q outcome d z (h .section .lawful) in
           record { section = d .section z; ahead = y .0; same = same-as ∙ y .1 }

@@ -5,14 +5,14 @@ use native.Mathlib.Omega.{arith}
 use native.Mathlib.Numerals.{add-one}
 use mathlib.Core.Bool.{Bool, true, false, _&&_}
 use mathlib.Core.Option.{Option, none, some, Option·map}
-use mathlib.Core.List.{List, [], _∷_, _++_, flatMap}
+use mathlib.Core.List.{List, _++_, map}
 use lib.ListN.{length, take, drop, getD, take-append-drop}
+use lib.Seq.{drop-drop}
 use lib.Dec.{T}
 use Rattle.basis.specs.Choice.{maybe}
 use Rattle.basis.specs.Logic.{and-l, and-r}
-use Rattle.basis.specs.Lists.{all, Found, zeros, pad}
-use Rattle.basis.specs.PadLaws.{pad-length, rows-length}
-use Rattle.basis.specs.Sizes.{tupleSize, tuplesSize, mostTuples}
+use Rattle.basis.specs.Lists.{Found, zeros}
+use Rattle.basis.specs.Sizes.{countWidth, tupleSize, tuplesSize}
 use Rattle.basis.specs.ListLaws.{Each}
 use Rattle.model.specs.Statement as Model
 use Rattle.model.specs.Statement.{Branch, operations, Statement}
@@ -23,21 +23,20 @@ use Rattle.model.specs.Execution.{Result, done, failed, perform, andThen, perfo
 use Rattle.model.specs.BoundKinds.{Agree, agree-unbound}
 use Rattle.words.specs.Over.{over}
 use Rattle.words.specs.OverLaws.{over-split}
-use Rattle.layout.specs.States.{tupleBytes}
-use Rattle.layout.specs.PlaceLaws.{area-unused}
 use Rattle.statements.specs.declared.OperationRead.{OperationRead}
 use Rattle.statements.specs.Flat.{operationIs, Reads, operationAt}
 use Rattle.tuples.specs.Section as Section
-use Rattle.tuples.specs.Section.{tuplesArea, tuplesOf, Holds}
-use Rattle.engine.specs.declared.Vars.{Vars}
-use Rattle.engine.specs.Variables.{bindingsOf}
-use Rattle.engine.specs.Performing.{resultIs, Leaves, leaves-failed}
-use Rattle.engine.specs.Codes.{CanPerform}
+use Rattle.sections.specs.RowLaws.{rows-rest}
+use Rattle.tuples.specs.Section.{entryBytes, tuplesOf, Holds}
+use Rattle.bindings.specs.declared.Vars.{Vars}
+use Rattle.bindings.specs.Variables.{bindingsOf}
+use Rattle.operations.specs.Performing.{resultIs, Leaves, leaves-failed}
+use Rattle.operations.specs.Codes.{CanPerform}
 use Rattle.engine.specs.Legality.{can-perform, AgreeAfter, perform-agrees}
 use Rattle.engine.specs.Ahead.{operationsAt, Ahead, ahead}
 use Rattle.layout.specs.Stored.{statementOf}
-use Rattle.engine.specs.Branches.{after-guard}
-use Rattle.engine.specs.Searching.{branchAt, branch-is, Chosen, Chooses, nothing, chosen-at}
+use Rattle.guards.specs.Branches.{after-guard}
+use Rattle.guards.specs.Searching.{branchAt, branch-is, Chosen, Chooses, nothing, chosen-at}
 
 -- ---- a branch
 
@@ -51,7 +50,7 @@ branch-legal br t =
     )
 
 module _ (b : List ℕ) (at : ℕ) (br : Branch) (c : Chosen b at br) (r : OperationRead) (e : Reads r (operationAt b at)) where
-  parts : (operationIs (r .operation) ≡ br .guard) × (r .end < length b) × (several operation (getD b (r .end) 0) (drop (r .end + 1) b) ≡ some (br .body, c .rest))
+  parts : (operationIs (r .operation) ≡ br .guard) × (r .end < length b) × (several operation (getD b (r .end) 0) (drop (r .end + countWidth) b) ≡ some (br .body, c .rest))
   parts = after-guard b at br (c .rest) r (c .reads) (c .legal) e
 
   pub branch-long : r .end < length b
@@ -77,14 +76,14 @@ module _ (b : List ℕ) (at : ℕ) (br : Branch) (c : Chosen b at br) (r : Opera
 
     -- the guard is done: the body stands ahead, and the branch is what it does from here on
     pub branch-goes : outcome ≡ 0 → Each Section.Legal ts
-        → (Ahead b (r .end + 1) (getD b (r .end) 0) (bindingsOf w)) × (performAll (operations br) unbound ts ≡ performAll (operationsAt b (r .end + 1) (getD b (r .end) 0)) (bindingsOf w) (tuplesOf q n))
+        → (Ahead b (r .end + countWidth) (getD b (r .end) 0) (bindingsOf w)) × (performAll (operations br) unbound ts ≡ performAll (operationsAt b (r .end + countWidth) (getD b (r .end) 0)) (bindingsOf w) (tuplesOf q n))
     unfolding operations performAll andThen resultIs
     branch-goes z l =
         let d : perform (br .guard) unbound ts ≡ done (bindingsOf w) (tuplesOf q n) = performed ∙ ap (λ (k : ℕ). resultIs k (bindingsOf w) (tuplesOf q n)) z in
         let legal = branch-legal br (c .legal) in
         let ks : Kinds = bindKinds noKinds (fieldsOf (br .guard)) in
         let a : Agree ks (bindingsOf w) = subst (AgreeAfter ks) d (perform-agrees (br .guard) noKinds unbound ts (legal .0) l agree-unbound) in
-        let y = ahead b (r .end + 1) (getD b (r .end) 0) (bindingsOf w) (br .body) (c .rest) ks (parts .2) (legal .1) a in
+        let y = ahead b (r .end + countWidth) (getD b (r .end) 0) (bindingsOf w) (br .body) (c .rest) ks (parts .2) (legal .1) a in
         (y .0, rw (d, y .1))
 
 -- ---- a statement
@@ -168,29 +167,13 @@ over-alike d s k e =
     let z : 0 + k ≡ k = omega arith in
     over-split d 0 s k ∙ ap (λ (i : ℕ). take k s ++ drop i d) z ∙ ap (λ (l : List ℕ). take k s ++ l) e ∙ take-append-drop k s
 
-drop-past : (xs ys : List ℕ) (j : ℕ) → drop (length xs + j) (xs ++ ys) ≡ drop j ys
-drop-past [] ys j = let z : 0 + j ≡ j = omega arith in ap (λ (i : ℕ). drop i ys) z
-drop-past (x ∷ xs) ys j =
-    let z : length (x ∷ xs) + j ≡ suc (length xs + j) = omega arith in
-    ap (λ (i : ℕ). drop i ((x ∷ xs) ++ ys)) z ∙ drop-past xs ys j
-
 -- past its tuples a section is zero
 section-rest : (p : List ℕ) (n : ℕ) (ts : List Tuple) → Holds p n ts → (k : ℕ) → n * tupleSize ≤ k → drop k p ≡ zeros (tuplesSize - k)
-unfolding tuplesArea
 section-rest p n ts h k l =
-    let rows : List ℕ = flatMap (λ t. pad tupleSize (tupleBytes t)) ts in
-    let long : length rows ≡ length ts * tupleSize = rows-length tupleSize (λ t. pad tupleSize (tupleBytes t)) (λ t. pad-length tupleSize (tupleBytes t)) ts in
-    let unused : ℕ = tuplesSize - length ts * tupleSize in
-    let parts : p ≡ rows ++ zeros unused = h .bytes ∙ area-unused tuplesSize tupleSize tupleBytes ts (omega (arith, h .count, h .few)) in
-    let j : ℕ = k - length rows in
-    let count : n ≡ length ts = h .count in
-    let sum : k ≡ length rows + j = omega arith in
-    let less : unused - j ≡ tuplesSize - k = omega arith in
-    ap (drop k) parts
-    ∙ ap (λ (i : ℕ). drop i (rows ++ zeros unused)) sum
-    ∙ drop-past rows (zeros unused) j
-    ∙ drop-zeros j unused
-    ∙ ap zeros less
+    let j : ℕ = k - n * tupleSize in
+    let sum : n * tupleSize + j ≡ k = omega arith in
+    let less : tuplesSize - n * tupleSize - j ≡ tuplesSize - k = omega arith in
+    ap (λ (i : ℕ). drop i p) (sym sum) ∙ sym (drop-drop j (n * tupleSize) p) ∙ ap (drop j) (rows-rest tuplesSize tupleSize p n (map entryBytes ts) (h .rows)) ∙ drop-zeros j (tuplesSize - n * tupleSize) ∙ ap zeros less
 
 -- a section's tuples over zeros
 pub copied-out : (p : List ℕ) (n : ℕ) → Section.Section p n → over (zeros tuplesSize) 0 p (n * tupleSize) ≡ p

@@ -21,9 +21,9 @@ use Rattle.model.specs.ValidLaws.{tuple-values}
 use Rattle.model.specs.BoundKinds.{Agree, agree-at, agree-bind, fields-cons, binds-nothing, summed, madeAll-legal}
 use Rattle.model.specs.Keeps.{legal-tuple}
 use Rattle.tuples.specs.Section as Section
-use Rattle.engine.specs.Making.{CanMake}
-use Rattle.engine.specs.Performing.{CanDeposit}
-use Rattle.engine.specs.Codes.{CanPerform}
+use Rattle.bindings.specs.Making.{CanMake}
+use Rattle.operations.specs.Performing.{CanDeposit}
+use Rattle.operations.specs.Codes.{CanPerform}
 
 -- a legal field's value can be made
 can-make : (ks now : Kinds) (bs : Bindings) (f : Field) → T (legalField ks now f) → Agree ks bs → CanMake bs f

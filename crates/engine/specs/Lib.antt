@@ -1,12 +1,3 @@
-pub mod Fields
-pub mod Variables
-pub mod Templates
-pub mod Binding
-pub mod Making
-pub mod Performing
-pub mod Codes
 pub mod Legality
 pub mod Ahead
-pub mod Branches
-pub mod Searching
 pub mod Attempting

@@ -1,2 +1,5 @@
-pub mod Rows
 pub mod RowLaws
+pub mod Rows
+pub mod StoredLaws
+pub mod Whole
+pub mod WholeLaws

@@ -17,12 +17,12 @@ use Rattle.words.specs.OverLaws.{over-lent}
 use Rattle.words.specs.WordLaws.{numberAt-1}
 use Rattle.sections.specs.Rows.{joined}
 use Rattle.sections.specs.Parts.{placeIn, Parts, part-written}
-use Rattle.sections.specs.Kinds.{entries-length}
+use Rattle.sections.specs.Shapes.{entries-length}
 use Rattle.header.specs.Rows.{widths, partsOf, Cut}
 
 -- ---- the parts
 
-encode-parts : (s : Run) → Cut (encode s) (partsOf s)
+pub encode-parts : (s : Run) → Cut (encode s) (partsOf s)
 unfolding encode headerBytes partsOf joined pad zeros bigEndian
 encode-parts s = record {
   bytes = rw (append-nil (area waitingAllSize waitingSize waitingBytes (s .waiting)));

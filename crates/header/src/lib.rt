@@ -5,8 +5,10 @@ ghost use Prim.Native.Nat.{_≤_, _<_};
 ghost use lib.ListN.{length};
 ghost use Rattle.basis.specs.Numbers.{bigEndian, numberAt, bits};
 ghost use Rattle.basis.specs.Sizes.{positionWidth, maskWidth, countWidth, nextWidth, tupleCountWidth, hosts, mostMonitors, mostSpaces, mostTuples, mostWaiting, lastAt, maskAt, monitorsAt, nextAt, spaceCountAt, tupleCountAt, waitingCountAt, headerSize};
+ghost use Rattle.model.specs.Valid.{countsFit};
 ghost use Rattle.layout.specs.States.{decode};
 ghost use Rattle.words.specs.Over.{over};
+ghost use Rattle.header.specs.Whole.{headerLegal};
 
 // "last position taken (4)".
 pub fn last(state: &[u8]) -> u32
@@ -116,4 +118,44 @@ pub fn set_waiting_count(state: &mut [u8], n: usize)
     ensures { λ _. ⌜ now (state .exit) ≡ over (now (state .entry)) waitingCountAt (bigEndian countWidth n) countWidth ⌝ }
 {
     words::put_number(state, words::WAITING_COUNT_AT, words::COUNT_WIDTH, n as u32);
+}
+
+// ---- the test of a state
+
+// "every limit": of the counts.
+fn limits_ok(state: &[u8]) -> bool
+    requires { ⌜ headerSize ≤ length (now state) ⌝ }
+    ensures { λ r. ⌜ r ≡ countsFit (decode (now (state .entry))) ⌝ }
+{
+    if words::MOST_MONITORS < monitors(state) {
+        return false;
+    }
+    if words::SPACE_NUMBERS < next(state) {
+        return false;
+    }
+    if words::MOST_SPACES < space_count(state) {
+        return false;
+    }
+    if words::MOST_TUPLES < tuple_count(state) {
+        return false;
+    }
+    waiting_count(state) <= words::MOST_WAITING
+}
+
+// `TS`, "All unused bytes are zero", and every limit.
+pub fn is_legal(state: &[u8]) -> bool
+    requires { ⌜ headerSize ≤ length (now state) ⌝ }
+    ensures { λ r. ⌜ r ≡ headerLegal (now (state .entry)) ⌝ }
+{
+    if !words::has_mark(state, b"TS") {
+        return false;
+    }
+    if !words::zero_run(
+        state,
+        words::HEADER_USED,
+        words::HEADER - words::HEADER_USED,
+    ) {
+        return false;
+    }
+    limits_ok(state)
 }

@@ -13,9 +13,10 @@ use Rattle.words.specs.OverLaws.{over-parts, drop-over}
 use Rattle.model.specs.Run.{Reply}
 use Rattle.layout.specs.Replies.{replyBytes, repliesBytes}
 use Rattle.layout.specs.ReplyLaws.{reply-length}
-use Rattle.lines.specs.Lines.{lineOf, linesOf}
-use Rattle.lines.specs.Written.{lineIn, spanAt, sizeAt, Put, Fits, Given}
-use Rattle.lines.specs.ReadLaws.{line-back, size-back}
+use Rattle.text.specs.Lines.{lineOf, linesOf}
+use Rattle.text.specs.Written.{lineIn, spanAt, sizeAt, Fits, Given}
+use Rattle.digits.specs.Put.{Put}
+use Rattle.text.specs.ReadLaws.{line-back, size-back}
 
 -- ---- a front of text
 

@@ -1,3 +1,5 @@
 pub mod Queue
 pub mod QueueLaws
 pub mod PlaceLaws
+pub mod Legal
+pub mod LegalLaws

@@ -11,7 +11,7 @@ use Rattle.basis.specs.Lists.{zeros, pad}
 use Rattle.basis.specs.Numbers.{bigEndian, numberAt}
 use Rattle.basis.specs.NumberLaws.{bigEndian-length, number-bigEndian}
 use Rattle.basis.specs.PadLaws.{take-past, numberAt-pad}
-use Rattle.basis.specs.Sizes.{positionWidth, lengthWidth, mostBody, waitingLengthAt, waitingBodyAt, waitingSize}
+use Rattle.basis.specs.Sizes.{positionWidth, lengthWidth, hostWidth, processWidth, processAt, hosts, processes, mostBody, waitingLengthAt, waitingBodyAt, waitingSize}
 use Rattle.model.specs.Legal.{parse, legalBody}
 use Rattle.model.specs.Writing.{statementBytes}
 use Rattle.model.specs.ReadBack.{parse-some}
@@ -19,16 +19,17 @@ use Rattle.model.specs.Run.{Waiting}
 use Rattle.layout.specs.States.{waitingBytes, noStatement}
 use Rattle.layout.specs.Stored.{statementOf, statement-of}
 use Rattle.sections.specs.RowLaws.{number-in, take-drop-take}
-use Rattle.sections.specs.Kinds.{entry, items-length, getD-member, holds-row, holds-lawful}
-use Rattle.queue.specs.Queue.{Written, waitingKind, waitingOf, IsQueued, waits}
+use Rattle.sections.specs.Shapes.{entry, items-length, getD-member, holds-row, holds-lawful}
+use Rattle.queue.specs.Queue.{Written, waitingShape, waitingOf, IsQueued, waits}
+use Rattle.queue.specs.QueueLaws.{host-of, host-small, process-of, process-small}
 
 -- stands where no statement waits
 abbrev pub noWaiting : Waiting
 noWaiting = waits 0 noStatement
 
 -- the waiting statement at an index
-abbrev pub waitingAt : List ℕ → (n i : ℕ) → Waiting
-waitingAt p n i = getD (waitingOf p n) i noWaiting
+abbrev pub waitingNth : List ℕ → (n i : ℕ) → Waiting
+waitingNth p n i = getD (waitingOf p n) i noWaiting
 
 -- the length of its body, and the body, as bytes
 abbrev pub bodySize : List ℕ → ℕ → ℕ
@@ -39,20 +40,20 @@ bodyOf p i = take (bodySize p i) (drop (i * waitingSize + waitingBodyAt) p)
 
 -- ---- a row
 
-row-size : (w : Waiting) → length (statementBytes (w .statement)) ≤ mostBody → numberAt waitingLengthAt lengthWidth (entry waitingKind w) ≡ length (statementBytes (w .statement))
+row-size : (w : Waiting) → length (statementBytes (w .statement)) ≤ mostBody → numberAt waitingLengthAt lengthWidth (entry waitingShape w) ≡ length (statementBytes (w .statement))
 unfolding waitingBytes
 row-size w h =
     let body = statementBytes (w .statement) in
     numberAt-pad waitingSize waitingLengthAt lengthWidth (bigEndian positionWidth (w .position)) (bigEndian lengthWidth (length body)) body (bigEndian-length positionWidth (w .position)) (bigEndian-length lengthWidth (length body)) (omega arith)
     ∙ number-bigEndian lengthWidth (length body) (omega arith)
 
-row-body : (w : Waiting) → length (statementBytes (w .statement)) ≤ mostBody → take (length (statementBytes (w .statement))) (drop waitingBodyAt (entry waitingKind w)) ≡ statementBytes (w .statement)
+row-body : (w : Waiting) → length (statementBytes (w .statement)) ≤ mostBody → take (length (statementBytes (w .statement))) (drop waitingBodyAt (entry waitingShape w)) ≡ statementBytes (w .statement)
 unfolding pad waitingBytes bigEndian
 row-body w h =
     let body = statementBytes (w .statement) in
     rw (take-past mostBody body (zeros waitingSize) h) (take-at body (take (mostBody - length body) (zeros waitingSize)) (length body) refl)
 
-row-position : (w : Waiting) → Written w → numberAt 0 positionWidth (entry waitingKind w) ≡ w .position
+row-position : (w : Waiting) → Written w → numberAt 0 positionWidth (entry waitingShape w) ≡ w .position
 unfolding waitingBytes
 row-position w l =
     let body = statementBytes (w .statement) in
@@ -69,14 +70,14 @@ pub record Stands (p : List ℕ) (i : ℕ) (w : Waiting) : Type 0 where
   pub parsed : parse (bodyOf p i) ≡ some (w .statement)
 
 module _ (p : List ℕ) (n i : ℕ) (h : IsQueued p n) (below : i < n) where
-  pub stands : Stands p i (waitingAt p n i)
+  pub stands : Stands p i (waitingNth p n i)
   stands =
-      let w : Waiting = waitingAt p n i in
+      let w : Waiting = waitingNth p n i in
       let k = waitingOf p n in
       let at : ℕ = i * waitingSize in
-      let lawful : Written w = holds-lawful waitingKind p n k h noWaiting i below in
+      let lawful : Written w = holds-lawful waitingShape p n k h noWaiting i below in
       let few : length (statementBytes (w .statement)) ≤ mostBody = parse-some (statementBytes (w .statement)) (w .statement) (lawful .body) .size in
-      let row : take waitingSize (drop at p) ≡ entry waitingKind w = holds-row waitingKind p n k h noWaiting i below in
+      let row : take waitingSize (drop at p) ≡ entry waitingShape w = holds-row waitingShape p n k h noWaiting i below in
       let first : at + 0 ≡ at = omega arith in
       let size : bodySize p i ≡ length (statementBytes (w .statement)) = sym (number-in at waitingSize waitingLengthAt lengthWidth p (omega arith)) ∙ (ap (numberAt waitingLengthAt lengthWidth) row ∙ row-size w few) in
       let all : take (length (statementBytes (w .statement))) (drop (at + waitingBodyAt) p) ≡ statementBytes (w .statement) =
@@ -90,5 +91,23 @@ module _ (p : List ℕ) (n i : ℕ) (h : IsQueued p n) (below : i < n) where
         parsed = ap parse body ∙ lawful .body;
       }
 
-  pub waiting-member : List·Memᴰ (waitingAt p n i) (waitingOf p n)
-  waiting-member = getD-member (waitingOf p n) noWaiting i (omega (arith, items-length waitingKind p n))
+  pub waiting-member : List·Memᴰ (waitingNth p n i) (waitingOf p n)
+  waiting-member = getD-member (waitingOf p n) noWaiting i (omega (arith, items-length waitingShape p n))
+
+  -- what is read of its host and process
+  pub host-at : (x : ℕ) → x ≡ numberAt (i * waitingSize + waitingBodyAt) hostWidth p → (x ≡ (waitingNth p n i) .statement .host) × (x < hosts)
+  host-at x e =
+      let w : Waiting = waitingNth p n i in
+      let lawful : Written w = holds-lawful waitingShape p n (waitingOf p n) h noWaiting i below in
+      let is : x ≡ w .statement .host =
+      e ∙ (sym (number-in (i * waitingSize) waitingSize waitingBodyAt hostWidth p (omega arith)) ∙ (ap (numberAt waitingBodyAt hostWidth) (holds-row waitingShape p n (waitingOf p n) h noWaiting i below) ∙ host-of w lawful)) in
+      (is, omega (arith, is, host-small w lawful))
+
+  pub process-at : (x : ℕ) → x ≡ numberAt (i * waitingSize + (waitingBodyAt + processAt)) processWidth p → (x ≡ (waitingNth p n i) .statement .process) × (x < processes)
+  process-at x e =
+      let w : Waiting = waitingNth p n i in
+      let lawful : Written w = holds-lawful waitingShape p n (waitingOf p n) h noWaiting i below in
+      let is : x ≡ w .statement .process =
+      e ∙ (sym (number-in (i * waitingSize) waitingSize (waitingBodyAt + processAt) processWidth p (omega arith))
+      ∙ (ap (numberAt (waitingBodyAt + processAt) processWidth) (holds-row waitingShape p n (waitingOf p n) h noWaiting i below) ∙ process-of w lawful)) in
+      (is, omega (arith, is, process-small w lawful))

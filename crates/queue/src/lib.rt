@@ -1,16 +1,18 @@
-// The waiting statements of a state: rows that say position, length and body, rising by position.
+// The waiting statements of a state: rows that say position, length and body.
 ghost use mathlib.Core.Path.{_≡_};
 ghost use Prim.Native.Nat.{_+_, _-_, _*_, _≤_, _<_};
 ghost use mathlib.Core.List.{[], _∷_, _++_};
-ghost use lib.ListN.{length};
+ghost use lib.ListN.{length, getD};
 ghost use lib.Dec.{T};
-ghost use Rattle.basis.specs.Lists.{any, keep, pad, removeAt};
+ghost use Rattle.basis.specs.Lists.{any, keep, pad, pairwise, pieces, removeAt};
 ghost use Rattle.basis.specs.Numbers.{numberAt};
-ghost use Rattle.basis.specs.Sizes.{positionWidth, lengthWidth, mostBody, mostWaiting, waitingLengthAt, waitingBodyAt, waitingSize};
+ghost use Rattle.basis.specs.Sizes.{positionWidth, lengthWidth, hosts, mostBody, mostWaiting, waitingLengthAt, waitingBodyAt, waitingSize};
 ghost use Rattle.model.specs.Legal.{legalBody};
 ghost use Rattle.layout.specs.Stored.{statementOf};
 ghost use Rattle.queue.specs.Queue.{waitingOf, Queued, IsQueued, ofOther, ofProcess, waits};
 ghost use Rattle.queue.specs.QueueLaws.{rowBytes};
+ghost use Rattle.queue.specs.PlaceLaws.{waitingNth};
+ghost use Rattle.queue.specs.Legal.{bodyFits, inOrder, otherProcess};
 
 const ROW: usize = words::WAITING;
 
@@ -38,6 +40,35 @@ pub fn body_length(waiting: &[u8], i: usize) -> usize
     ensures { λ r. ⌜ (r ≡ numberAt (i * waitingSize + waitingLengthAt) lengthWidth (now (waiting .entry))) × (r < 65536) ⌝ }
 {
     words::word2(waiting, i * ROW + words::WAITING_LENGTH_AT) as usize
+}
+
+// Host and process of the waiting statement at index i.
+pub fn host(waiting: &[u8], n: usize, i: usize) -> u8
+    requires { ⌜ IsQueued (now waiting) n × (i < n) ⌝ }
+    ensures { λ r. ⌜ (r ≡ (waitingNth (now (waiting .entry)) n i) .statement .host) × (r < hosts) ⌝ }
+{
+    sections::field(
+        waiting,
+        ROW,
+        n,
+        i,
+        words::WAITING_BODY_AT,
+        words::HOST_WIDTH,
+    ) as u8
+}
+
+pub fn process(waiting: &[u8], n: usize, i: usize) -> u16
+    requires { ⌜ IsQueued (now waiting) n × (i < n) ⌝ }
+    ensures { λ r. ⌜ r ≡ (waitingNth (now (waiting .entry)) n i) .statement .process ⌝ }
+{
+    sections::field(
+        waiting,
+        ROW,
+        n,
+        i,
+        words::WAITING_BODY_AT + words::PROCESS_AT,
+        words::PROCESS_WIDTH,
+    ) as u16
 }
 
 // ---- the queue
@@ -100,4 +131,40 @@ pub fn enqueue(waiting: &mut [u8], n: usize, position: u32, body: &[u8])
 {
     let row = row(position, body);
     sections::append(waiting, ROW, n, &row);
+}
+
+// ---- the test of a state
+
+// The body of the row at index i fits, and "All unused bytes are zero" past it.
+pub fn body_fits(waiting: &[u8], n: usize, i: usize) -> bool
+    requires { ⌜ (n * waitingSize ≤ length (now waiting)) × (i < n) × (n ≤ mostWaiting) ⌝ }
+    ensures { λ r. ⌜ r ≡ bodyFits (getD (pieces n waitingSize (now (waiting .entry))) i []) ⌝ }
+{
+    let len = body_length(waiting, i);
+    if words::MOST_BODY < len {
+        return false;
+    }
+    words::zero_run(waiting, body_at(i) + len, words::MOST_BODY - len)
+}
+
+// "waiting by position", "waiting positions are 1 to the last".
+pub fn in_order(waiting: &[u8], n: usize, last: u32) -> bool
+    requires { ⌜ n * waitingSize ≤ length (now waiting) ⌝ }
+    ensures { λ r. ⌜ r ≡ inOrder last (waitingOf (now (waiting .entry)) n) ⌝ }
+{
+    sections::rises(waiting, ROW, n, 0, words::POSITION_WIDTH, 1, last as usize)
+}
+
+// "of a process that no other entry has".
+pub fn processes_differ(waiting: &[u8], n: usize) -> bool
+    requires { ⌜ IsQueued (now waiting) n ⌝ }
+    ensures { λ r. ⌜ r ≡ pairwise otherProcess (waitingOf (now (waiting .entry)) n) ⌝ }
+{
+    sections::are_apart(
+        waiting,
+        ROW,
+        n,
+        words::WAITING_BODY_AT + words::PROCESS_AT,
+        words::PROCESS_WIDTH,
+    )
 }

@@ -1,10 +1,1 @@
-pub mod Entries
-pub mod Places
-pub mod Head
-pub mod Queue
-pub mod Refusal
-pub mod Walk
-pub mod WalkLaws
-pub mod PassLaws
-pub mod Marks
-pub mod Names
+pub mod Naming

@@ -9,7 +9,7 @@ use statements::Operation;
 pub extern "C" fn replica_fresh(state: &mut [u8]) -> u64
     ensures { λ r. ⌜ freshAnswer r (now (state .exit)) ≡ freshCall (now (state .entry)) ⌝ }
 {
-    entries::fresh(state)
+    fresh::fresh(state)
 }
 
 // The call for a record: 1 to 5 where it is turned back, else its reply byte count.
@@ -17,7 +17,7 @@ pub extern "C" fn replica_fresh(state: &mut [u8]) -> u64
 pub extern "C" fn replica_take(state: &mut [u8], record: &[u8], reply: &mut [u8]) -> u64
     ensures { λ r. ⌜ answer r (now (state .exit)) (now (reply .exit)) ≡ takeCall (lent (now (state .entry)) (now («record» .entry)) (now (reply .entry))) ⌝ }
 {
-    entries::take(state, record, reply)
+    admission::take(state, record, reply)
 }
 
 // ---- the writer: 0, 6 or 2
@@ -33,7 +33,7 @@ pub extern "C" fn replica_begin(
 ) -> u64
     ensures { λ r. ⌜ writtenIs (record { answer = r; fill = now (fill .exit) }) (now (body .exit)) ≡ beginOn (now (body .entry)) host process guard ⌝ }
 {
-    let added = writer::begin_at(body, host, process, guard);
+    let added = additions::begin_at(body, host, process, guard);
     *fill = added.fill;
     added.answer as u64
 }
@@ -44,7 +44,7 @@ pub extern "C" fn replica_operation(body: &mut [u8], fill: &mut usize, operation
     ensures { λ r. ⌜ writtenIs (record { answer = r; fill = now (fill .exit) }) (now (body .exit)) ≡ addOperation (now (body .entry)) (now (fill .entry)) operation ⌝ }
 {
     let filled = *fill;
-    let added = writer::operation_at(body, filled, operation);
+    let added = additions::operation_at(body, filled, operation);
     *fill = added.fill;
     added.answer as u64
 }
@@ -55,7 +55,7 @@ pub extern "C" fn replica_branch(body: &mut [u8], fill: &mut usize, guard: Opera
     ensures { λ r. ⌜ writtenIs (record { answer = r; fill = now (fill .exit) }) (now (body .exit)) ≡ addBranch (now (body .entry)) (now (fill .entry)) guard ⌝ }
 {
     let filled = *fill;
-    let added = writer::branch_at(body, filled, guard);
+    let added = additions::branch_at(body, filled, guard);
     *fill = added.fill;
     added.answer as u64
 }

@@ -13,7 +13,7 @@ use Rattle.basis.specs.Choice.{maybe, provided}
 use Rattle.basis.specs.Numbers.{bigEndian}
 use Rattle.basis.specs.NumberLaws.{bigEndian-length}
 use Rattle.basis.specs.PadLaws.{Wide, rows-length}
-use Rattle.basis.specs.Sizes.{variables, replyHeaderSize, replyValueSize}
+use Rattle.basis.specs.Sizes.{markWidth, positionWidth, processWidth, kindWidth, bitsWidth, variableWidth, variables, replyPositionAt, replyHostAt, replyProcessAt, replyOutcomeAt, replyBranchAt, replyCountAt, replyHeaderSize, replyKindAt, replyBitsAt, replyValueSize}
 use Rattle.words.specs.Over.{over}
 use Rattle.words.specs.OverLaws.{over-set, over-append, over-front, over-next, over-none, drop-over-at}
 use Rattle.model.specs.Value.{Value, value}
@@ -33,40 +33,40 @@ set-next d s n b e h =
 
 -- the seven stores of a head
 pub head-stored : (d d₁ d₂ d₃ : List ℕ) (position host process outcome branch count : ℕ) → replyHeaderSize ≤ length d → host < 256
-    → d₁ ≡ over d 0 replyMark 2 → d₂ ≡ over d₁ 2 (bigEndian 4 position) 4 → d₃ ≡ over (set d₂ 6 host) 7 (bigEndian 2 process) 2
-    → set (set (set d₃ 9 outcome) 10 branch) 11 count ≡ over d 0 (headBytes position host process outcome branch count) replyHeaderSize
+    → d₁ ≡ over d 0 replyMark markWidth → d₂ ≡ over d₁ replyPositionAt (bigEndian positionWidth position) positionWidth → d₃ ≡ over (set d₂ replyHostAt host) replyProcessAt (bigEndian processWidth process) processWidth
+    → set (set (set d₃ replyOutcomeAt outcome) replyBranchAt branch) replyCountAt count ≡ over d 0 (headBytes position host process outcome branch count) replyHeaderSize
 unfolding headBytes bigEndian
 head-stored d d₁ d₂ d₃ position host process outcome branch count h small e₁ e₂ e₃ =
-    let a : List ℕ = replyMark ++ bigEndian 4 position in
+    let a : List ℕ = replyMark ++ bigEndian positionWidth position in
     let b : List ℕ = a ++ (host ∷ []) in
-    let c : List ℕ = b ++ bigEndian 2 process in
-    let f₁ : d₁ ≡ replyMark ++ drop 2 d = e₁ ∙ over-front d replyMark 2 refl in
-    let f₂ : d₂ ≡ a ++ drop 6 d = e₂ ∙ ap (λ (l : List ℕ). over l 2 (bigEndian 4 position) 4) f₁ ∙ over-next d replyMark 2 (bigEndian 4 position) 4 refl refl in
-    let f₃ : set d₂ 6 host ≡ b ++ drop 7 d = ap (λ (l : List ℕ). set l 6 host) f₂ ∙ set-next d a 6 host refl (omega arith) in
-    let f₄ : d₃ ≡ c ++ drop 9 d = e₃ ∙ ap (λ (l : List ℕ). over l 7 (bigEndian 2 process) 2) f₃ ∙ over-next d b 7 (bigEndian 2 process) 2 refl refl in
-    let f₅ : set d₃ 9 outcome ≡ (c ++ (outcome ∷ [])) ++ drop 10 d = ap (λ (l : List ℕ). set l 9 outcome) f₄ ∙ set-next d c 9 outcome refl (omega arith) in
-    let f₆ : set (set d₃ 9 outcome) 10 branch ≡ (c ++ (outcome ∷ branch ∷ [])) ++ drop 11 d = ap (λ (l : List ℕ). set l 10 branch) f₅ ∙ set-next d (c ++ (outcome ∷ [])) 10 branch refl (omega arith) in
-    let f₇ : set (set (set d₃ 9 outcome) 10 branch) 11 count ≡ (c ++ (outcome ∷ branch ∷ count ∷ [])) ++ drop 12 d =
-    ap (λ (l : List ℕ). set l 11 count) f₆ ∙ set-next d (c ++ (outcome ∷ branch ∷ [])) 11 count refl (omega arith) in
+    let c : List ℕ = b ++ bigEndian processWidth process in
+    let f₁ : d₁ ≡ replyMark ++ drop replyPositionAt d = e₁ ∙ over-front d replyMark markWidth refl in
+    let f₂ : d₂ ≡ a ++ drop replyHostAt d = e₂ ∙ ap (λ (l : List ℕ). over l replyPositionAt (bigEndian positionWidth position) positionWidth) f₁ ∙ over-next d replyMark replyPositionAt (bigEndian positionWidth position) positionWidth refl refl in
+    let f₃ : set d₂ replyHostAt host ≡ b ++ drop replyProcessAt d = ap (λ (l : List ℕ). set l replyHostAt host) f₂ ∙ set-next d a replyHostAt host refl (omega arith) in
+    let f₄ : d₃ ≡ c ++ drop replyOutcomeAt d = e₃ ∙ ap (λ (l : List ℕ). over l replyProcessAt (bigEndian processWidth process) processWidth) f₃ ∙ over-next d b replyProcessAt (bigEndian processWidth process) processWidth refl refl in
+    let f₅ : set d₃ replyOutcomeAt outcome ≡ (c ++ (outcome ∷ [])) ++ drop replyBranchAt d = ap (λ (l : List ℕ). set l replyOutcomeAt outcome) f₄ ∙ set-next d c replyOutcomeAt outcome refl (omega arith) in
+    let f₆ : set (set d₃ replyOutcomeAt outcome) replyBranchAt branch ≡ (c ++ (outcome ∷ branch ∷ [])) ++ drop replyCountAt d = ap (λ (l : List ℕ). set l replyBranchAt branch) f₅ ∙ set-next d (c ++ (outcome ∷ [])) replyBranchAt branch refl (omega arith) in
+    let f₇ : set (set (set d₃ replyOutcomeAt outcome) replyBranchAt branch) replyCountAt count ≡ (c ++ (outcome ∷ branch ∷ count ∷ [])) ++ drop replyHeaderSize d =
+    ap (λ (l : List ℕ). set l replyCountAt count) f₆ ∙ set-next d (c ++ (outcome ∷ branch ∷ [])) replyCountAt count refl (omega arith) in
     let one : host % 256 ≡ host = omega arith in
-    f₇ ∙ sym (over-front d (headBytes position host process outcome branch count) 12 refl ∙ rw one)
+    f₇ ∙ sym (over-front d (headBytes position host process outcome branch count) replyHeaderSize refl ∙ rw one)
 
 -- the three stores of a value
 pub value-stored : (d : List ℕ) (at x k n : ℕ) → at + replyValueSize ≤ length d
-    → over (set (set d at x) (at + 1) k) (at + 2) (bigEndian 4 n) 4 ≡ over d at (replyValue (x, value k n)) replyValueSize
+    → over (set (set d at x) (at + replyKindAt) k) (at + replyBitsAt) (bigEndian bitsWidth n) bitsWidth ≡ over d at (replyValue (x, value k n)) replyValueSize
 unfolding replyValue valueBytes
 value-stored d at x k n h =
     let l : length (set d at x) ≡ length d = length-set d at x in
-    let one : set d at x ≡ over d at (x ∷ []) 1 = over-set d at x (omega arith) in
-    let two : set (set d at x) (at + 1) k ≡ over d at (x ∷ k ∷ []) 2 =
-    over-set (set d at x) (at + 1) k (omega arith) ∙ ap (λ (r : List ℕ). over r (at + 1) (k ∷ []) 1) one ∙ over-append d at (x ∷ []) 1 (k ∷ []) 1 (omega arith) refl in
-    ap (λ (r : List ℕ). over r (at + 2) (bigEndian 4 n) 4) two ∙ over-append d at (x ∷ k ∷ []) 2 (bigEndian 4 n) 4 (omega arith) refl
+    let one : set d at x ≡ over d at (x ∷ []) variableWidth = over-set d at x (omega arith) in
+    let two : set (set d at x) (at + replyKindAt) k ≡ over d at (x ∷ k ∷ []) replyBitsAt =
+    over-set (set d at x) (at + replyKindAt) k (omega arith) ∙ ap (λ (r : List ℕ). over r (at + replyKindAt) (k ∷ []) kindWidth) one ∙ over-append d at (x ∷ []) variableWidth (k ∷ []) kindWidth (omega arith) refl in
+    ap (λ (r : List ℕ). over r (at + replyBitsAt) (bigEndian bitsWidth n) bitsWidth) two ∙ over-append d at (x ∷ k ∷ []) replyBitsAt (bigEndian bitsWidth n) bitsWidth (omega arith) refl
 
 -- ---- values
 
 value-wide : Wide replyValueSize replyValue
 unfolding replyValue valueBytes
-value-wide v = let e = bigEndian-length 4 (v .1 .bits) in omega arith
+value-wide v = let e = bigEndian-length bitsWidth (v .1 .bits) in omega arith
 
 pub values-length : (vs : List (ℕ × Value)) → length (valuesBytes vs) ≡ length vs * replyValueSize
 unfolding valuesBytes

@@ -10,12 +10,6 @@ ghost use Rattle.model.specs.Step.{inVariable0};
 ghost use Rattle.layout.specs.Replies.{replyValue};
 ghost use Rattle.replies.specs.Written.{headBytes, boundTo, PutValues, reply, ranValues, Wrote};
 
-// A reply's bytes before its values.
-pub const HEAD: usize = words::REPLY_HEADER;
-
-// A value in a reply: variable, kind, four bytes.
-pub const VALUE: usize = words::REPLY_VALUE;
-
 // "`RP`, position of the record answered (4), host, process (2), outcome, branch, value count".
 fn put_head(
     out: &mut [u8],
@@ -30,12 +24,12 @@ fn put_head(
     ensures { λ _. ⌜ now (out .exit) ≡ over (now (out .entry)) 0 (headBytes position host process outcome branch count) replyHeaderSize ⌝ }
 {
     words::copy_at(out, 0, b"RP");
-    words::put4(out, 2, position);
-    out[6] = host;
-    words::put2(out, 7, process);
-    out[9] = outcome;
-    out[10] = branch;
-    out[11] = count;
+    words::put4(out, words::REPLY_POSITION_AT, position);
+    out[words::REPLY_HOST_AT] = host;
+    words::put2(out, words::REPLY_PROCESS_AT, process);
+    out[words::REPLY_OUTCOME_AT] = outcome;
+    out[words::REPLY_BRANCH_AT] = branch;
+    out[words::REPLY_COUNT_AT] = count;
 }
 
 // "per value: variable, kind, 4 bytes".
@@ -44,12 +38,17 @@ fn put_value(out: &mut [u8], at: usize, variable: u8, kind: u8, bits: u32)
     ensures { λ _. ⌜ now (out .exit) ≡ over (now (out .entry)) at (replyValue (variable, value kind bits)) replyValueSize ⌝ }
 {
     out[at] = variable;
-    out[at + 1] = kind;
-    words::put4(out, at + 2, bits);
+    out[at + words::REPLY_KIND_AT] = kind;
+    words::put4(out, at + words::REPLY_BITS_AT, bits);
 }
 
 // "A statement's values are all its bound variables in rising number": from the end of the head on; their count.
-fn put_values(out: &mut [u8], bound: [bool; 16], kinds: [u8; 16], bits: [u32; 16]) -> usize
+fn put_values(
+    out: &mut [u8],
+    bound: [bool; words::VARIABLES],
+    kinds: [u8; words::VARIABLES],
+    bits: [u32; words::VARIABLES],
+) -> usize
     requires { ⌜ mostReply ≤ length (now out) ⌝ }
     ensures { λ r. ⌜ PutValues (boundTo variables bound kinds bits) (now (out .entry)) (now (out .exit)) r ⌝ }
 {
@@ -57,7 +56,13 @@ fn put_values(out: &mut [u8], bound: [bool; 16], kinds: [u8; 16], bits: [u32; 16
     let mut x = 0;
     while x < words::VARIABLES {
         if bound[x] {
-            put_value(out, HEAD + count * VALUE, x as u8, kinds[x], bits[x]);
+            put_value(
+                out,
+                words::REPLY_HEADER + count * words::REPLY_VALUE,
+                x as u8,
+                kinds[x],
+                bits[x],
+            );
             count += 1;
         }
         x += 1;
@@ -71,7 +76,7 @@ pub fn plain_reply(out: &mut [u8], position: u32, host: u8, process: u16, outcom
     ensures { λ r. ⌜ Wrote (reply position host process outcome 0 []) (now (out .entry)) (now (out .exit)) r ⌝ }
 {
     put_head(out, position, host, process, outcome, 0, 0);
-    HEAD
+    words::REPLY_HEADER
 }
 
 // "each as variable 0, whole": done, with one number.
@@ -79,9 +84,9 @@ pub fn number_reply(out: &mut [u8], position: u32, host: u8, process: u16, n: u3
     requires { ⌜ replyHeaderSize + replyValueSize ≤ length (now out) ⌝ }
     ensures { λ r. ⌜ Wrote (reply position host process 0 0 (inVariable0 n)) (now (out .entry)) (now (out .exit)) r ⌝ }
 {
-    put_value(out, HEAD, 0, 0, n);
+    put_value(out, words::REPLY_HEADER, 0, 0, n);
     put_head(out, position, host, process, 0, 0, 1);
-    HEAD + VALUE
+    words::REPLY_HEADER + words::REPLY_VALUE
 }
 
 // The reply to a statement that ran: the variables that are bound, where it is done.
@@ -92,18 +97,18 @@ pub fn ran_reply(
     process: u16,
     outcome: u8,
     branch: u8,
-    bound: [bool; 16],
-    kinds: [u8; 16],
-    bits: [u32; 16],
+    bound: [bool; words::VARIABLES],
+    kinds: [u8; words::VARIABLES],
+    bits: [u32; words::VARIABLES],
 ) -> usize
     requires { ⌜ mostReply ≤ length (now out) ⌝ }
     ensures { λ r. ⌜ Wrote (reply position host process outcome branch (ranValues outcome bound kinds bits)) (now (out .entry)) (now (out .exit)) r ⌝ }
 {
     if outcome != 0 {
         put_head(out, position, host, process, outcome, branch, 0);
-        return HEAD;
+        return words::REPLY_HEADER;
     }
     let count = put_values(out, bound, kinds, bits);
     put_head(out, position, host, process, outcome, branch, count as u8);
-    HEAD + count * VALUE
+    words::REPLY_HEADER + count * words::REPLY_VALUE
 }

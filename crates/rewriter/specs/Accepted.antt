@@ -12,7 +12,7 @@ use Rattle.model.specs.Statement.{Statement}
 use Rattle.statements.specs.declared.Operation.{Operation}
 use Rattle.writer.specs.Writer.{begun, withOperation, withBranch, Written, refusedBy, written, held, beginOn, addTo, addOperation, addBranch}
 use Rattle.writer.specs.WriterLaws.{Answered, filled, malformed, short, answered, begin-filled, add-filled, filled-held}
-use Rattle.writer.specs.Answers.{held-some}
+use Rattle.writer.specs.HeldLaws.{held-some}
 use Rattle.rewriter.specs.Additions.{Addition, operation, branch, additions, Parts, no-part, operation-part, branch-part, handIn, handAll, grow, growAll}
 use Rattle.rewriter.specs.Fronts.{additions-all, host-all, process-all}
 use Rattle.rewriter.specs.RoundTrips.{ReadBack}

@@ -11,7 +11,7 @@ use lib.Dec.{T, leb, le→leb}
 use Rattle.basis.specs.Logic.{and-l, and-r, both}
 use Rattle.basis.specs.Lists.{all}
 use Rattle.basis.specs.Numbers.{numberAt}
-use Rattle.basis.specs.Sizes.{processWidth, mostBody}
+use Rattle.basis.specs.Sizes.{processWidth, mostBody, processAt, branchCountAt, branchesAt, countWidth}
 use Rattle.model.specs.Statement as model
 use Rattle.model.specs.Statement.{Branch, Statement}
 use Rattle.model.specs.Reading.{several, give, operation, branch}
@@ -21,14 +21,13 @@ use Rattle.model.specs.ReadBack.{BodyOf, several-length, parse-parts}
 use Rattle.statements.specs.declared.OperationRead.{OperationRead}
 use Rattle.statements.specs.At.{found}
 use Rattle.statements.specs.Flat.{operationIs, readIs, Reads, fewFields, operationAt}
-use Rattle.statements.specs.Walk.{body-parts}
-use Rattle.statements.specs.Legal.{one-branch, one-operation, operation-at, branch-at}
+use Rattle.ends.specs.BodyParts.{body-parts}
+use Rattle.ends.specs.Positions.{one-branch, one-operation, operation-at, branch-at}
 use Rattle.writer.specs.declared.Added.{Added}
 use Rattle.writer.specs.Writer.{handed, begun, Written, writtenIs, isWritable, filledWith, beginOn, addOperation, addBranch}
 use Rattle.writer.specs.Tests.{parts-handed}
-use Rattle.writer.specs.Grown.{legal-some}
-use Rattle.writer.specs.Room.{processAt, branchCountAt, branchesAt}
-use Rattle.writer.specs.LastCount.{bytes-below, body-some}
+use Rattle.ends.specs.Counts.{legal-some}
+use Rattle.ends.specs.LastCount.{bytes-below, body-some}
 use Rattle.rewriter.specs.Additions as addition
 use Rattle.rewriter.specs.Additions.{Addition, additions, handIn, grow, growAll}
 use Rattle.rewriter.specs.Fronts.{legal-each, branch-few, front, some-grow, grown-all}
@@ -82,7 +81,7 @@ operation-ahead body at m later o os bs r a s =
 record BranchAhead (body : List ℕ) (m : ℕ) (br : Branch) (bs : List Branch) (r : OperationRead) : Type 0 where
   is : operationIs (r .operation) ≡ br .guard
   within : r .end < length body
-  ahead : Ahead body (r .end + 1) (getD body (r .end) 0) m (br .body) bs
+  ahead : Ahead body (r .end + countWidth) (getD body (r .end) 0) m (br .body) bs
 
 branch-ahead : (body : List ℕ) (at m : ℕ) (br : Branch) (bs : List Branch) (r : OperationRead) → several branch (suc m) (drop at body) ≡ some (br ∷ bs, []) → T (all legalBranch (br ∷ bs)) → Reads r (operationAt body at)
     → BranchAhead body m br bs r
@@ -203,11 +202,11 @@ module _ (body buffer : List ℕ) (at m fill : ℕ) (out : List ℕ) (u : Underw
 
   -- one branch more: its operations are ahead
   pub branch-turn : (a : Added) (next : List ℕ) → writtenIs a next ≡ addBranch out fill (r .operation)
-      → Underway body buffer (r .end + 1) (getD body (r .end) 0) m (a .fill) next
+      → Underway body buffer (r .end + countWidth) (getD body (r .end) 0) m (a .fill) next
   branch-turn a next w =
       let k = next-branch in
       let called : addBranch out fill (r .operation) ≡ handIn (holding buffer (u .part)) (addition.branch (r .operation)) = unfold handIn in called-on buffer (u .part) fill out (λ l n. addBranch l n (r .operation)) (u .filled) (u .bytes) in
-      more body buffer at 0 (suc m) fill out u (addition.branch (k .br .guard)) (k .br .body) (k .bs) (k .grows) a next (r .end + 1) (getD body (r .end) 0) m (k .next .ahead)
+      more body buffer at 0 (suc m) fill out u (addition.branch (k .br .guard)) (k .br .body) (k .bs) (k .grows) a next (r .end + countWidth) (getD body (r .end) 0) m (k .next .ahead)
       (λ x y z. w ∙ called ∙ branch-front buffer (u .part) (u .one) (r .operation) (k .br .guard) (read-handed r (operationAt body at) s ∙ ap some (k .next .is)) x y z)
 
 no-branches : (s : List ℕ) (bs : List Branch) (rest : List ℕ) → several branch 0 s ≡ some (bs, rest) → bs ≡ []
@@ -305,7 +304,7 @@ module _ (body buffer : List ℕ) (is-legal : legalBody body ≡ true) (byte : (
 
   -- begun: the operations of the first branch are ahead
   pub begin-turn : (host process : ℕ) → host ≡ getD body 0 0 → process ≡ numberAt processAt processWidth body → (a : Added) (next : List ℕ)
-      → writtenIs a next ≡ beginOn buffer host process (r .operation) → Underway body buffer (r .end + 1) (getD body (r .end) 0) (getD body branchCountAt 0 - 1) (a .fill) next
+      → writtenIs a next ≡ beginOn buffer host process (r .operation) → Underway body buffer (r .end + countWidth) (getD body (r .end) 0) (getD body branchCountAt 0 - 1) (a .fill) next
   begin-turn host process eh ep a next w =
       let k = first-branch in
       let st : Statement = k .whole in

@@ -9,15 +9,16 @@ use lib.Dec.{T, leb, ltb, leb→le, le→leb}
 use Rattle.basis.specs.Logic.{and-l, and-r, both}
 use Rattle.basis.specs.Lists.{all}
 use Rattle.basis.specs.ListLaws.{all-at, all-of}
-use Rattle.basis.specs.Sizes.{hosts, processes, mostBranches, mostOperations, mostBody}
+use Rattle.basis.specs.Sizes.{hosts, processes, mostBranches, mostOperations, mostBody, branchCountAt}
 use Rattle.model.specs.Statement.{Operation, Branch, operations, Statement}
 use Rattle.model.specs.Legal.{Kinds, noKinds, bindKinds, fieldsOf, legalOperation, legalOperations, isGuard, isBodyOperation, legalBranch, legalStatement}
 use Rattle.model.specs.Writing.{operationBytes, statementBytes}
 use Rattle.statements.specs.Flat.{fewFields}
-use Rattle.statements.specs.Walk.{fewIn, legal-fewIn}
+use Rattle.ends.specs.BranchEnds.{fewIn}
+use Rattle.ends.specs.LegalEnds.{legal-fewIn}
 use Rattle.writer.specs.Writer.{begun, inLast, withOperation, withBranch, isWritable}
-use Rattle.writer.specs.Grown.{raised, countAt, operation-bytes, branch-bytes}
-use Rattle.writer.specs.Room.{branchCountAt}
+use Rattle.composer.specs.Grown.{raised, operation-bytes, branch-bytes}
+use Rattle.ends.specs.Counts.{countAt}
 use Rattle.rewriter.specs.Additions.{Addition, operation, branch, additions, grow, growAll}
 
 -- ---- legal

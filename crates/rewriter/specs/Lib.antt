@@ -3,5 +3,4 @@ pub mod Additions
 pub mod Copying
 pub mod Fronts
 pub mod HasParts
-pub mod Rewriting
 pub mod RoundTrips

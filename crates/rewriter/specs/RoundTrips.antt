@@ -20,7 +20,7 @@ use Rattle.model.specs.ReadBack.{parse-parts}
 use Rattle.statements.specs.declared.Operation.{Operation}
 use Rattle.writer.specs.Writer.{handed, begun, withOperation, withBranch, Written, isWritable, filledWith, written, held, beginOn, addTo, addOperation, addBranch}
 use Rattle.writer.specs.WriterLaws.{written-legal, begin-filled, add-filled, filled-held}
-use Rattle.writer.specs.Answers.{held-some}
+use Rattle.writer.specs.HeldLaws.{held-some}
 use Rattle.rewriter.specs.Additions.{Addition, operation, branch, additions, Parts, no-part, operation-part, branch-part, handIn, handAll, Done, last-done, next-done, grow, growAll}
 use Rattle.rewriter.specs.Fronts.{shorter, front, some-grow, grown-all, additions-all, host-all, process-all}
 

@@ -1,5 +1,6 @@
 pub mod Rows
 pub mod RowLaws
 pub mod Loops
-pub mod Kinds
+pub mod Tests
+pub mod Shapes
 pub mod Parts

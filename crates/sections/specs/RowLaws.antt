@@ -1,19 +1,22 @@
 -- The laws of rows: bytes cut into rows and joined again, one row cut out, one more, a number in a row. Assumes nothing.
-use mathlib.Core.Path.{_≡_, refl, sym, ap, _∙_}
+use mathlib.Core.Path.{_≡_, refl, sym, ap, subst, _∙_}
 use Prim.Native.Nat.{ℕ, zero, suc, _+_, _-_, _*_, _≤_, _<_}
 use native.Mathlib.Nat.{zero-mul, suc-mul, add-mul, mul-le-mul-right}
 use native.Mathlib.Omega.{arith}
 use mathlib.Core.List.{List, [], _∷_, _++_, append-assoc, append-nil, List·Memᴰ·head, List·Memᴰ·tail, Memᴰ·append-left, Memᴰ·append-right}
-use lib.ListN.{length, take, drop, getD, length-append, length-drop, take-append-drop, replicate-append-replicate}
+use lib.ListN.{length, take, drop, getD, length-append, length-drop, take-append-drop}
 use lib.Seq.{take-at, drop-at, take-all, take-add, take-take, drop-drop, split-at, length-take-le}
 use lib.Dec.{T}
+use lib.Pow.{areBytes}
 use Rattle.basis.specs.Lists.{zeros, pad, pieces, removeAt}
-use Rattle.basis.specs.ListLaws.{each-nil, each-cons, each-append, removeAt-in, removeAt-length}
+use Rattle.basis.specs.ListLaws.{Each, each-nil, each-cons, each-append, removeAt-in, removeAt-length}
 use Rattle.basis.specs.PadLaws.{zeros-length, pad-length, pad-split}
-use Rattle.basis.specs.Numbers.{number, numberAt}
+pub use Rattle.basis.specs.PadLaws.{zeros-add, flatMap-append}
+use Rattle.basis.specs.Numbers.{bigEndian, number, numberAt}
+use Rattle.basis.specs.NumberLaws.{bytes-cons, bytes-take, bytes-drop, bigEndian-number}
 use Rattle.words.specs.Over.{over, zerosAt}
 use Rattle.words.specs.OverLaws.{over-mid, over-append}
-use Rattle.words.specs.ZeroLaws.{zerosAt→zeros}
+use Rattle.words.specs.ZeroLaws.{zerosAt→zeros, zeros→zerosAt}
 use Rattle.sections.specs.Rows.{joined, Wides, Rows, Section}
 
 -- ---- products with a size that is any
@@ -44,10 +47,6 @@ pub row-room : (size n i whole : ℕ) → n * size ≤ whole → i < n → i * s
 row-room size n i whole h k = let m : (i + 1) * size ≤ n * size = mul-le-mul-right size (omega arith) in omega (arith, after i size)
 
 -- ---- joined
-
-pub zeros-add : (n m : ℕ) → zeros (n + m) ≡ zeros n ++ zeros m
-unfolding zeros
-zeros-add n m = sym (replicate-append-replicate n m 0)
 
 pub joined-append : (rs ss : List (List ℕ)) → joined (rs ++ ss) ≡ joined rs ++ joined ss
 unfolding joined
@@ -111,6 +110,24 @@ number-in at size k w b h = ap number (take-drop-take k w size (drop at b) h ∙
 pub number-of-row : (n size : ℕ) (p : List ℕ) (i at w : ℕ) → i < n → at + w ≤ size → numberAt (i * size + at) w p ≡ numberAt at w (getD (pieces n size p) i [])
 number-of-row n size p i at w h k = sym (ap (numberAt at w) (pieces-at n size p i h) ∙ number-in (i * size) size at w p k)
 
+-- a number that is written again
+pub number-written : (at w : ℕ) (b : List ℕ) → T (areBytes b) → at + w ≤ length b → bigEndian w (numberAt at w b) ≡ take w (drop at b)
+unfolding numberAt
+number-written at w b t h =
+    let part : List ℕ = take w (drop at b) in
+    let l : length part ≡ w = length-take-le w (drop at b) (simp length-drop (omega arith)) in
+    subst (λ (k : ℕ). bigEndian k (number part) ≡ part) l (bigEndian-number part (bytes-take w (drop at b) (bytes-drop at b t)))
+
+-- as a proof has it of a slice
+pub bytes-of : (l : List ℕ) → ((k : ℕ) → getD l k 0 < 256) → T (areBytes l)
+bytes-of [] h = tt
+bytes-of (a ∷ l) h = bytes-cons a l (h 0) (bytes-of l (λ k. h (suc k)))
+
+pub pieces-bytes : (n w : ℕ) (l : List ℕ) → T (areBytes l) → Each (λ (r : List ℕ). T (areBytes r)) (pieces n w l)
+unfolding pieces
+pieces-bytes zero w l t = each-nil _
+pieces-bytes (suc n) w l t = each-cons (λ (r : List ℕ). T (areBytes r)) (take w l) (pieces n w (drop w l)) (bytes-take w l t) (pieces-bytes n w (drop w l) (bytes-drop w l t))
+
 -- ---- a section
 
 -- any bytes are one whose last bytes are zero
@@ -140,6 +157,12 @@ module _ (whole size : ℕ) (p : List ℕ) (n : ℕ) (rs : List (List ℕ)) (h :
 
   pub section : Section size p n
   section = rw (rows-length, rows-read) h
+
+-- past its rows are zeros
+pub section-unused : (size n : ℕ) (p : List ℕ) → Section size p n → T (zerosAt p (n * size) (length p - n * size))
+section-unused size n p s =
+    zeros→zerosAt p (n * size) (length p - n * size)
+    (take-all (length p - n * size) (drop (n * size) p) (simp length-drop (omega arith)) ∙ rows-rest (length p) size p n (pieces n size p) s)
 
 -- what lies before a row, the row, what lies after it, and zeros
 cut-out : (a x b z : List ℕ) (i w n : ℕ) → length a ≡ i → length x ≡ w → length b ≡ n

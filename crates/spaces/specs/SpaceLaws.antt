@@ -21,34 +21,39 @@ use Rattle.words.specs.WordLaws.{numberAt-1}
 use Rattle.sections.specs.Rows.{has, lacks, indexOf}
 use Rattle.sections.specs.RowLaws.{number-in}
 use Rattle.sections.specs.Loops.{index-any}
-use Rattle.sections.specs.Kinds.{entry, item-at, items-length, holds-index}
-use Rattle.spaces.specs.Spaces.{Small, spaceKind, spacesOf, IsListed, Rising, numbered, otherThan, opening, noSpace}
+use Rattle.sections.specs.Shapes.{entry, item-at, items-length, holds-index}
+use Rattle.spaces.specs.Spaces.{Small, spaceShape, spacesOf, IsListed, Rising, numbered, otherThan, opening, noSpace}
 
 -- ---- the number of a row
 
-number-of : (a : Space) → Small a → numberAt 0 spaceWidth (entry spaceKind a) ≡ a .number
+number-of : (a : Space) → Small a → numberAt 0 spaceWidth (entry spaceShape a) ≡ a .number
 unfolding spaceBytes
 number-of a l =
     numberAt-pad spaceSize 0 spaceWidth [] (bigEndian spaceWidth (a .number)) (accessBytes (a .access)) refl (bigEndian-length spaceWidth (a .number)) (omega arith)
     ∙ number-bigEndian spaceWidth (a .number) (l .number)
 
-pub has-number : (m : ℕ) (a : Space) → Small a → has 0 spaceWidth m (entry spaceKind a) ≡ numbered m a
+pub has-number : (m : ℕ) (a : Space) → Small a → has 0 spaceWidth m (entry spaceShape a) ≡ numbered m a
 has-number m a l = ap (λ (k : ℕ). eqb k m) (number-of a l)
 
-pub lacks-number : (m : ℕ) (a : Space) → Small a → lacks 0 spaceWidth m (entry spaceKind a) ≡ otherThan m a
+pub lacks-number : (m : ℕ) (a : Space) → Small a → lacks 0 spaceWidth m (entry spaceShape a) ≡ otherThan m a
 lacks-number m a l = ap not (has-number m a l)
 
 -- ---- the first of a number
-
-pub place-is : (p : List ℕ) (n m r : ℕ) → IsListed p n → r ≡ indexOf (has 0 spaceWidth m) (pieces n spaceSize p) → r ≡ indexOf (numbered m) (spacesOf p n)
-place-is p n m r h e = e ∙ holds-index spaceKind p n (spacesOf p n) h (has 0 spaceWidth m) (numbered m) (has-number m)
 
 -- it is there exactly if the space is open
 pub open-is : (p : List ℕ) (n m r : ℕ) → r ≡ indexOf (numbered m) (spacesOf p n) → ltb r n ≡ isOpen (spacesOf p n) m
 unfolding isOpen
 open-is p n m r e =
     ap (λ (k : ℕ). ltb k n) e
-    ∙ (ap (λ (k : ℕ). ltb (indexOf (numbered m) (spacesOf p n)) k) (sym (items-length spaceKind p n)) ∙ index-any (numbered m) (spacesOf p n))
+    ∙ (ap (λ (k : ℕ). ltb (indexOf (numbered m) (spacesOf p n)) k) (sym (items-length spaceShape p n)) ∙ index-any (numbered m) (spacesOf p n))
+
+-- a space that was open is open still
+pub known-open : (ss : List Space) (m last : ℕ) → m ≡ last → m < spaceNumbers → (last < spaceNumbers → isOpen ss last ≡ true) → true ≡ isOpen ss m
+known-open ss m last e h k = sym (ap (isOpen ss) e ∙ k (omega arith))
+
+-- a number that is no space's says nothing
+pub none-known : (ss : List Space) → spaceNumbers < spaceNumbers → isOpen ss spaceNumbers ≡ true
+none-known ss h = absurd (omega arith)
 
 -- a number that all pass stands nowhere among them
 none-denied : (p m : ℕ) (ss : List Space) → T (all (λ b. ltb m (b .number)) ss) → isDenied ss p m ≡ false
@@ -90,10 +95,10 @@ denied-none p m (a ∷ ss) h = go (eqb (a .number) m) h (denied-none p m ss)
 
 module _ (p : List ℕ) (n m r q : ℕ) (e : r ≡ indexOf (numbered m) (spacesOf p n)) where
   pub absent : n ≤ r → false ≡ isDenied (spacesOf p n) q m
-  absent h = sym (denied-none q m (spacesOf p n) (omega (arith, items-length spaceKind p n)))
+  absent h = sym (denied-none q m (spacesOf p n) (omega (arith, items-length spaceShape p n)))
 
   pub present : (t : Bool) → Rising (spacesOf p n) → r < n → t ≡ deniedTo q ((getD (spacesOf p n) r noSpace) .access) → t ≡ isDenied (spacesOf p n) q m
-  present t rise h y = y ∙ (ap (λ (i : ℕ). deniedTo q ((getD (spacesOf p n) i noSpace) .access)) e ∙ sym (denied-at q m (spacesOf p n) rise (omega (arith, items-length spaceKind p n))))
+  present t rise h y = y ∙ (ap (λ (i : ℕ). deniedTo q ((getD (spacesOf p n) i noSpace) .access)) e ∙ sym (denied-at q m (spacesOf p n) rise (omega (arith, items-length spaceShape p n))))
 
   pub shut : n ≤ r → false ≡ (isOpen (spacesOf p n) m && not (isDenied (spacesOf p n) q m))
   shut h = rw (← open-is p n m r e, le-ltb r n h)
@@ -113,7 +118,7 @@ module _ (p : List ℕ) (n i : ℕ) (room : n * spaceSize ≤ length p) (below :
       let kind : getD (take spaceSize (drop at p)) spaceKindAt 0 ≡ numberAt (at + spaceKindAt) kindWidth p =
       getD-take spaceSize (drop at p) spaceKindAt 0 (omega arith) ∙ (getD-drop at p spaceKindAt 0 ∙ sym (numberAt-1 (at + spaceKindAt) p (omega arith))) in
       let owner : numberAt spaceOwnerAt processWidth (take spaceSize (drop at p)) ≡ numberAt (at + spaceOwnerAt) processWidth p = number-in at spaceSize spaceOwnerAt processWidth p (omega arith) in
-      ap (λ (a : Space). a .access) (item-at spaceKind p n noSpace i below) ∙ rw (kind, owner)
+      ap (λ (a : Space). a .access) (item-at spaceShape p n noSpace i below) ∙ rw (kind, owner)
 
   pub open-to-all : (k q : ℕ) → k ≡ numberAt (at + spaceKindAt) kindWidth p → (k ≡ 1 → ⊥) → false ≡ deniedTo q ((getD (spacesOf p n) i noSpace) .access)
   unfolding deniedTo

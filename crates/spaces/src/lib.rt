@@ -1,32 +1,70 @@
-// The open spaces of a state: rows that say number, kind and owner, rising by number.
+// The open spaces of a state: rows that say number, kind and owner.
 ghost use mathlib.Core.Path.{_≡_};
 ghost use Prim.Native.Nat.{_+_, _*_, _≤_, _<_};
-ghost use mathlib.Core.Bool.{not, _&&_};
+ghost use mathlib.Core.Bool.{true, not, _&&_};
 ghost use mathlib.Core.List.{[], _∷_, _++_};
 ghost use lib.ListN.{length, getD};
-ghost use Rattle.basis.specs.Lists.{keep};
-ghost use Rattle.basis.specs.Sizes.{mostSpaces, spaceNumbers, spaceSize};
+ghost use Rattle.basis.specs.Lists.{all, keep, pieces};
+ghost use Rattle.basis.specs.Sizes.{mostSpaces, spaceNumbers, spaceSize, spacesSize};
 ghost use Rattle.model.specs.Run.{isOpen, deniedTo, isDenied};
 ghost use Rattle.layout.specs.States.{spaceBytes};
 ghost use Rattle.sections.specs.Rows.{indexOf};
 ghost use Rattle.spaces.specs.Spaces.{spacesOf, Listed, IsListed, Rising, numbered, otherThan, opening, noSpace};
+ghost use Rattle.spaces.specs.Legal.{spacesLegal, accessOk};
+ghost use Rattle.spaces.specs.SearchLaws.{numberIn};
 
 const ROW: usize = words::SPACE;
 
-// The index of the space of a number; n, where it is not open.
+// The number of the space at an index.
+fn number_at(spaces: &[u8], n: usize, i: usize) -> u32
+    requires { ⌜ (n * spaceSize ≤ length (now spaces)) × (i < n) ⌝ }
+    ensures { λ r. ⌜ r ≡ numberIn (spacesOf (now (spaces .entry)) n) i ⌝ }
+{
+    sections::field(spaces, ROW, n, i, 0, words::SPACE_WIDTH)
+}
+
+// The index of the space of a number, where numbers rise; n, where it is not open: by halving what is left from index `low` on.
 fn place(spaces: &[u8], n: usize, number: u16) -> usize
-    requires { ⌜ IsListed (now spaces) n ⌝ }
+    requires { ⌜ (n * spaceSize ≤ length (now spaces)) × Rising (spacesOf (now spaces) n) ⌝ }
     ensures { λ r. ⌜ r ≡ indexOf (numbered number) (spacesOf (now (spaces .entry)) n) ⌝ }
 {
-    sections::find(spaces, ROW, n, 0, words::SPACE_WIDTH, number as u32)
+    let mut low = 0;
+    let mut left = n;
+    while 1 < left {
+        let half = left / 2;
+        if number_at(spaces, n, low + half) <= number as u32 {
+            low += half;
+            left -= half;
+        } else {
+            left -= half;
+        }
+    }
+    if n <= low {
+        return n;
+    }
+    if number_at(spaces, n, low) == number as u32 {
+        return low;
+    }
+    n
 }
 
 // Whether a space is open.
 pub fn is_open(spaces: &[u8], n: usize, number: u16) -> bool
-    requires { ⌜ IsListed (now spaces) n ⌝ }
+    requires { ⌜ IsListed (now spaces) n × Rising (spacesOf (now spaces) n) ⌝ }
     ensures { λ r. ⌜ r ≡ isOpen (spacesOf (now (spaces .entry)) n) number ⌝ }
 {
     place(spaces, n, number) < n
+}
+
+// The same, where `last` is a space that was found open, or no number of a space: looked for from the last one found.
+pub fn still_open(spaces: &[u8], n: usize, number: u16, last: u32) -> bool
+    requires { ⌜ IsListed (now spaces) n × Rising (spacesOf (now spaces) n) × (number < spaceNumbers) × (last < spaceNumbers → isOpen (spacesOf (now spaces) n) last ≡ true) ⌝ }
+    ensures { λ r. ⌜ r ≡ isOpen (spacesOf (now (spaces .entry)) n) number ⌝ }
+{
+    if number as u32 == last {
+        return true;
+    }
+    is_open(spaces, n, number)
 }
 
 // Whether the space at an index is private to another process.
@@ -100,4 +138,67 @@ pub fn close(spaces: &mut [u8], n: usize, number: u16) -> usize
     ensures { λ r. ⌜ Listed (now (spaces .exit)) r (keep (otherThan number) (spacesOf (now (spaces .entry)) n)) ⌝ }
 {
     sections::drop_rows(spaces, ROW, n, 0, words::SPACE_WIDTH, number as u32)
+}
+
+// ---- the test of a state
+
+// Kind and owner of the row at index i: private, or shared, whose owner is 0.
+fn access_ok(spaces: &[u8], n: usize, i: usize) -> bool
+    requires { ⌜ (n * spaceSize ≤ length (now spaces)) × (i < n) ⌝ }
+    ensures { λ r. ⌜ r ≡ accessOk (getD (pieces n spaceSize (now (spaces .entry))) i []) ⌝ }
+{
+    let kind = sections::field(spaces, ROW, n, i, words::SPACE_KIND_AT, words::KIND_WIDTH);
+    if kind == 1 {
+        return true;
+    }
+    if kind != 0 {
+        return false;
+    }
+    sections::field(
+        spaces,
+        ROW,
+        n,
+        i,
+        words::SPACE_OWNER_AT,
+        words::PROCESS_WIDTH,
+    )
+        == 0
+}
+
+// Those of n rows.
+fn accesses_ok(spaces: &[u8], n: usize) -> bool
+    requires { ⌜ n * spaceSize ≤ length (now spaces) ⌝ }
+    ensures { λ r. ⌜ r ≡ all accessOk (pieces n spaceSize (now (spaces .entry))) ⌝ }
+{
+    let mut i = 0;
+    while i < n {
+        if !access_ok(spaces, n, i) {
+            return false;
+        }
+        i += 1;
+    }
+    true
+}
+
+// "Spaces rise by number", "space 0 is open and shared, spaces are below the next number", and their section is as they are written.
+pub fn are_legal(spaces: &[u8], n: usize, next: u32) -> bool
+    requires { ⌜ (length (now spaces) ≡ spacesSize) × (n ≤ mostSpaces) ⌝ }
+    ensures { λ r. ⌜ r ≡ spacesLegal (now (spaces .entry)) n next ⌝ }
+{
+    if n == 0 {
+        return false;
+    }
+    if next == 0 {
+        return false;
+    }
+    if !sections::unused_zero(spaces, ROW, n) {
+        return false;
+    }
+    if !words::zero_run(spaces, 0, ROW) {
+        return false;
+    }
+    if !accesses_ok(spaces, n) {
+        return false;
+    }
+    sections::rises(spaces, ROW, n, 0, words::SPACE_WIDTH, 0, next as usize - 1)
 }

@@ -10,31 +10,44 @@ use lib.ListN.{length, drop, getD}
 use lib.Dec.{leb, ltb}
 use borrow.Author.Tests.{lt-ltb, le-ltb, le-leb, lt-leb}
 use Rattle.basis.specs.Numbers.{numberAt}
-use Rattle.basis.specs.Sizes.{bitsWidth}
+use Rattle.basis.specs.Sizes.{formWidth, kindWidth, variableWidth, bitsWidth, valueBitsAt, valueSize}
 use Rattle.model.specs.Value.{Value, value}
 use Rattle.model.specs.Statement.{Field, actual, formal, reference, sum, difference, anonymous}
 use Rattle.model.specs.Reading.{Reader, _>>=_, refuse, byte, chosenBy, fieldValue, actualField, formalField, referenceField, sumField, anonymousField, field}
 use Rattle.statements.specs.At.{which, readAt, found, found-some, found-none, some-readAt, none-readAt}
 use Rattle.statements.specs.Fixed.{Fixed, fixed-byte, fixed-last, fixed-then, fixed-as, fixed-value}
 
+-- forms 3 and 4: variable, kind, value
+abbrev pub sumSize : ℕ
+sumSize = variableWidth + valueSize
+
 -- the bytes of a field of a form, its form byte included; 0: there is no such form
 unfoldable pub widthOf : ℕ → ℕ
-widthOf form = getD (6 ∷ 3 ∷ 2 ∷ 7 ∷ 7 ∷ 2 ∷ []) form 0
+widthOf form =
+    getD
+    ((formWidth + valueSize)
+    ∷ (formWidth + kindWidth + variableWidth)
+    ∷ (formWidth + variableWidth)
+    ∷ (formWidth + sumSize)
+    ∷ (formWidth + sumSize)
+    ∷ (formWidth + kindWidth)
+    ∷ [])
+    form 0
 
 -- the field of a form whose form byte stands right before a position
 unfoldable pub fieldAfter : ℕ → List ℕ → ℕ → Field
 fieldAfter form b at =
     getD
-    (actual (value (getD b at 0) (numberAt (at + 1) bitsWidth b))
-    ∷ formal (getD b at 0) (getD b (at + 1) 0)
+    (actual (value (getD b at 0) (numberAt (at + valueBitsAt) bitsWidth b))
+    ∷ formal (getD b at 0) (getD b (at + kindWidth) 0)
     ∷ reference (getD b at 0)
-    ∷ sum (getD b at 0) (value (getD b (at + 1) 0) (numberAt (at + 2) bitsWidth b))
-    ∷ difference (getD b at 0) (value (getD b (at + 1) 0) (numberAt (at + 2) bitsWidth b))
+    ∷ sum (getD b at 0) (value (getD b (at + variableWidth) 0) (numberAt (at + (variableWidth + valueBitsAt)) bitsWidth b))
+    ∷ difference (getD b at 0) (value (getD b (at + variableWidth) 0) (numberAt (at + (variableWidth + valueBitsAt)) bitsWidth b))
     ∷ [])
     form (anonymous (getD b at 0))
 
 unfoldable pub fieldParts : List ℕ → ℕ → Field
-fieldParts b at = fieldAfter (getD b at 0) b (at + 1)
+fieldParts b at = fieldAfter (getD b at 0) b (at + formWidth)
 
 -- a form byte is there, it is one of the six, and the bytes of its form are there
 unfoldable pub fieldStands : List ℕ → ℕ → Bool
@@ -49,25 +62,25 @@ fieldEnd b at = cond (fieldStands b at) (at + widthOf (getD b at 0)) 0
 abbrev rows : List (Reader Field)
 rows = actualField ∷ formalField ∷ referenceField ∷ sumField sum ∷ sumField difference ∷ anonymousField ∷ []
 
-fixed-sum : (made : ℕ → Value → Field) → Fixed (sumField made) 6 (λ b at. made (getD b at 0) (value (getD b (at + 1) 0) (numberAt (at + 2) bitsWidth b)))
+fixed-sum : (made : ℕ → Value → Field) → Fixed (sumField made) sumSize (λ b at. made (getD b at 0) (value (getD b (at + variableWidth) 0) (numberAt (at + (variableWidth + valueBitsAt)) bitsWidth b)))
 unfolding sumField
 fixed-sum made =
-    fixed-as _ 6 _ _
-    (fixed-then byte _ 1 5 (λ b at. getD b at 0) (λ x b at. made x (value (getD b at 0) (numberAt (at + 1) bitsWidth b))) fixed-byte
-    (λ x. fixed-last fieldValue (made x) 5 (λ b at. value (getD b at 0) (numberAt (at + 1) bitsWidth b)) fixed-value))
-    (λ b at. let e : at + 1 + 1 ≡ at + 2 = omega arith in rw e)
+    fixed-as _ sumSize _ _
+    (fixed-then byte _ variableWidth valueSize (λ b at. getD b at 0) (λ x b at. made x (value (getD b at 0) (numberAt (at + valueBitsAt) bitsWidth b))) fixed-byte
+    (λ x. fixed-last fieldValue (made x) valueSize (λ b at. value (getD b at 0) (numberAt (at + valueBitsAt) bitsWidth b)) fixed-value))
+    (λ b at. let e : at + variableWidth + valueBitsAt ≡ at + (variableWidth + valueBitsAt) = omega arith in rw e)
 
 -- what stands after a form byte has the form's width
-fixed-after : (form : ℕ) → 0 < widthOf form → Fixed (getD rows form refuse) (widthOf form - 1) (fieldAfter form)
+fixed-after : (form : ℕ) → 0 < widthOf form → Fixed (getD rows form refuse) (widthOf form - formWidth) (fieldAfter form)
 unfolding widthOf fieldAfter actualField formalField referenceField anonymousField
-fixed-after zero h = fixed-last fieldValue actual 5 (λ b at. value (getD b at 0) (numberAt (at + 1) bitsWidth b)) fixed-value
+fixed-after zero h = fixed-last fieldValue actual valueSize (λ b at. value (getD b at 0) (numberAt (at + valueBitsAt) bitsWidth b)) fixed-value
 fixed-after (suc zero) h =
-    fixed-then byte _ 1 1 (λ b at. getD b at 0) (λ k b at. formal k (getD b at 0)) fixed-byte
-    (λ k. fixed-last byte (formal k) 1 (λ b at. getD b at 0) fixed-byte)
-fixed-after (suc (suc zero)) h = fixed-last byte reference 1 (λ b at. getD b at 0) fixed-byte
+    fixed-then byte _ kindWidth variableWidth (λ b at. getD b at 0) (λ k b at. formal k (getD b at 0)) fixed-byte
+    (λ k. fixed-last byte (formal k) variableWidth (λ b at. getD b at 0) fixed-byte)
+fixed-after (suc (suc zero)) h = fixed-last byte reference variableWidth (λ b at. getD b at 0) fixed-byte
 fixed-after (suc (suc (suc zero))) h = fixed-sum sum
 fixed-after (suc (suc (suc (suc zero)))) h = fixed-sum difference
-fixed-after (suc (suc (suc (suc (suc zero))))) h = fixed-last byte anonymous 1 (λ b at. getD b at 0) fixed-byte
+fixed-after (suc (suc (suc (suc (suc zero))))) h = fixed-last byte anonymous kindWidth (λ b at. getD b at 0) fixed-byte
 fixed-after (suc (suc (suc (suc (suc (suc n)))))) h = absurd (omega arith)
 
 no-row : (form : ℕ) → widthOf form ≡ 0 → getD rows form refuse ≡ refuse
@@ -81,7 +94,7 @@ no-row (suc (suc (suc (suc (suc zero))))) h = absurd (omega arith)
 no-row (suc (suc (suc (suc (suc (suc n)))))) h = refl
 
 -- by the forms of sums, and past the last form
-pub width-sum : (form : ℕ) → 3 ≤ form → form < 5 → widthOf form ≡ 7
+pub width-sum : (form : ℕ) → 3 ≤ form → form < 5 → widthOf form ≡ formWidth + sumSize
 unfolding widthOf
 width-sum zero l h = absurd (omega arith)
 width-sum (suc zero) l h = absurd (omega arith)
@@ -100,21 +113,21 @@ width-past (suc (suc (suc (suc zero)))) h = absurd (omega arith)
 width-past (suc (suc (suc (suc (suc zero))))) h = absurd (omega arith)
 width-past (suc (suc (suc (suc (suc (suc n)))))) h = refl
 
--- every form has two bytes or more
-pub width-two : (form : ℕ) → 0 < widthOf form → 2 ≤ widthOf form
+-- every form has a byte after it
+pub width-more : (form : ℕ) → 0 < widthOf form → formWidth < widthOf form
 unfolding widthOf
-width-two zero h = omega arith
-width-two (suc zero) h = omega arith
-width-two (suc (suc zero)) h = omega arith
-width-two (suc (suc (suc zero))) h = omega arith
-width-two (suc (suc (suc (suc zero)))) h = omega arith
-width-two (suc (suc (suc (suc (suc zero))))) h = omega arith
-width-two (suc (suc (suc (suc (suc (suc n)))))) h = absurd (omega arith)
+width-more zero h = omega arith
+width-more (suc zero) h = omega arith
+width-more (suc (suc zero)) h = omega arith
+width-more (suc (suc (suc zero))) h = omega arith
+width-more (suc (suc (suc (suc zero)))) h = omega arith
+width-more (suc (suc (suc (suc (suc zero))))) h = omega arith
+width-more (suc (suc (suc (suc (suc (suc n)))))) h = absurd (omega arith)
 
 -- ---- the field at a position
 
 -- a form byte, then what its form has
-field-from : (b : List ℕ) (at : ℕ) → at < length b → field (drop at b) ≡ getD rows (getD b at 0) refuse (drop (at + 1) b)
+field-from : (b : List ℕ) (at : ℕ) → at < length b → field (drop at b) ≡ getD rows (getD b at 0) refuse (drop (at + formWidth) b)
 unfolding field chosenBy _>>=_
 field-from b at h = rw (fixed-byte .enough b at (omega arith))
 
@@ -124,16 +137,16 @@ field-past b at h = rw (fixed-byte .short b at (omega arith))
 
 pub field-no-form : (b : List ℕ) (at : ℕ) → at < length b → widthOf (getD b at 0) ≡ 0 → field (drop at b) ≡ none
 unfolding refuse
-field-no-form b at h w = field-from b at h ∙ ap (λ (p : Reader Field). p (drop (at + 1) b)) (no-row (getD b at 0) w)
+field-no-form b at h w = field-from b at h ∙ ap (λ (p : Reader Field). p (drop (at + formWidth) b)) (no-row (getD b at 0) w)
 
 pub field-short : (b : List ℕ) (at : ℕ) → at < length b → 0 < widthOf (getD b at 0) → length b < at + widthOf (getD b at 0) → field (drop at b) ≡ none
-field-short b at h w l = field-from b at h ∙ fixed-after (getD b at 0) w .short b (at + 1) (omega arith)
+field-short b at h w l = field-from b at h ∙ fixed-after (getD b at 0) w .short b (at + formWidth) (omega arith)
 
 pub field-there : (b : List ℕ) (at : ℕ) → 0 < widthOf (getD b at 0) → at + widthOf (getD b at 0) ≤ length b → field (drop at b) ≡ some (fieldParts b at, drop (at + widthOf (getD b at 0)) b)
 unfolding fieldParts
 field-there b at w l =
-    let e : at + 1 + (widthOf (getD b at 0) - 1) ≡ at + widthOf (getD b at 0) = omega arith in
-    field-from b at (omega arith) ∙ rw e at (fixed-after (getD b at 0) w .enough b (at + 1) (omega arith))
+    let e : at + formWidth + (widthOf (getD b at 0) - formWidth) ≡ at + widthOf (getD b at 0) = omega arith in
+    field-from b at (omega arith) ∙ rw e at (fixed-after (getD b at 0) w .enough b (at + formWidth) (omega arith))
 
 -- ---- where a field ends
 

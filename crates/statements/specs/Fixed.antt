@@ -11,7 +11,7 @@ use lib.Seq.{drop-drop, drop-cons}
 use borrow.Author.Tests.{le-leb, lt-leb}
 use Rattle.basis.specs.Choice.{maybe, provided}
 use Rattle.basis.specs.Numbers.{numberAt}
-use Rattle.basis.specs.Sizes.{bitsWidth}
+use Rattle.basis.specs.Sizes.{kindWidth, bitsWidth, valueBitsAt, valueSize}
 use Rattle.model.specs.Value.{value}
 use Rattle.model.specs.Reading.{Reader, _>>=_, give, byte, natural, fieldValue}
 use Rattle.statements.specs.At.{which}
@@ -59,8 +59,8 @@ pub fixed-as : {A : Type 0} (p : Reader A) (w : ℕ) (get same : List ℕ → �
 fixed-as p w get same h e = record { enough = λ b at l. rw (← e b at) (h .enough b at l); short = h .short }
 
 -- kind and four bytes
-pub fixed-value : Fixed fieldValue 5 (λ b at. value (getD b at 0) (numberAt (at + 1) bitsWidth b))
+pub fixed-value : Fixed fieldValue valueSize (λ b at. value (getD b at 0) (numberAt (at + valueBitsAt) bitsWidth b))
 unfolding fieldValue
 fixed-value =
-    fixed-then byte _ 1 bitsWidth (λ b at. getD b at 0) (λ k b at. value k (numberAt at bitsWidth b)) fixed-byte
+    fixed-then byte _ kindWidth bitsWidth (λ b at. getD b at 0) (λ k b at. value k (numberAt at bitsWidth b)) fixed-byte
     (λ k. fixed-last (natural bitsWidth) (value k) bitsWidth (λ b at. numberAt at bitsWidth b) (fixed-natural bitsWidth (omega arith)))

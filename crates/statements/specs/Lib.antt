@@ -1,10 +1,7 @@
 pub mod At
+pub mod Fields
 pub mod Fixed
 pub mod Flat
-pub mod Fields
 pub mod FlatLaws
-pub mod Several
 pub mod Operations
-pub mod Kinds
-pub mod Walk
-pub mod Legal
+pub mod Several

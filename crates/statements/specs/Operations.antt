@@ -11,8 +11,7 @@ use lib.Dec.{leb}
 use borrow.Author.Tests.{le-leb, lt-leb}
 use Rattle.basis.specs.Choice.{maybe, provided}
 use Rattle.basis.specs.Numbers.{numberAt, number}
-use Rattle.words.specs.WordLaws.{numberAt-1}
-use Rattle.basis.specs.Sizes.{spaceWidth, mostFields}
+use Rattle.basis.specs.Sizes.{codeWidth, countWidth, spaceWidth, mostFields}
 use Rattle.model.specs.Statement as model
 use Rattle.model.specs.Statement.{always, lookup, deposit, transfer}
 use Rattle.model.specs.Legal.{fieldsOf}
@@ -21,7 +20,7 @@ use Rattle.model.specs.ReadBack.{several-length}
 use Rattle.statements.specs.At.{which, Suffix, suffix-give, suffix-refuse, suffix-byte, suffix-then, suffix-last, suffix-counted, placed, readAt, passed, found, some-readAt}
 use Rattle.statements.specs.Fixed.{fixed-byte, fixed-natural}
 use Rattle.statements.specs.Several.{suffix-field}
-use Rattle.statements.specs.Flat.{fieldsAre, fieldsRead, operationOf, fewFields, operationAt}
+use Rattle.statements.specs.Flat.{codes, fieldsAre, fieldsRead, operationOf, fewFields, operationAt}
 use Rattle.statements.specs.declared.FieldsRead.{FieldsRead}
 
 -- ---- what is left is a last part
@@ -82,9 +81,9 @@ madeOf made none = none
 madeOf made (some r) = some (made (r .0), r .1)
 
 fields-from : (made : List model.Field → model.Operation) (b : List ℕ) (at : ℕ) → at < length b
-    → fieldsMade made (drop at b) ≡ madeOf made (several field (getD b at 0) (drop (at + 1) b))
+    → fieldsMade made (drop at b) ≡ madeOf made (several field (getD b at 0) (drop (at + countWidth) b))
 unfolding counted _>>=_ give
-fields-from made b at h = rw (fixed-byte .enough b at (omega arith)) (go (several field (getD b at 0) (drop (at + 1) b)))
+fields-from made b at h = rw (fixed-byte .enough b at (omega arith)) (go (several field (getD b at 0) (drop (at + countWidth) b)))
   where
     go : (o : Option (List model.Field × List ℕ)) → maybe o none (λ r. some (made (r .0), r .1)) ≡ madeOf made o
     go none = refl
@@ -106,25 +105,25 @@ fields-of (suc (suc (suc (suc (suc (suc (suc n))))))) from to fs h = refl
 pub fields-many : (code from to : ℕ) (b : List ℕ) (at : ℕ) → 0 < code → at < length b → mostFields < getD b at 0
     → passed fewFields (readAt (fieldsMade (operationOf code from to)) b at) ≡ none
 unfolding passed readAt fewFields provided
-fields-many code from to b at c h m = rw (fields-from (operationOf code from to) b at h) (go (several field (getD b at 0) (drop (at + 1) b)) refl)
+fields-many code from to b at c h m = rw (fields-from (operationOf code from to) b at h) (go (several field (getD b at 0) (drop (at + countWidth) b)) refl)
   where
-    go : (o : Option (List model.Field × List ℕ)) → several field (getD b at 0) (drop (at + 1) b) ≡ o → passed fewFields (placed b (madeOf (operationOf code from to) o)) ≡ none
+    go : (o : Option (List model.Field × List ℕ)) → several field (getD b at 0) (drop (at + countWidth) b) ≡ o → passed fewFields (placed b (madeOf (operationOf code from to) o)) ≡ none
     go none q = refl
     go (some r) q =
-        let n : length (r .0) ≡ getD b at 0 = several-length field (getD b at 0) (drop (at + 1) b) (r .1) (r .0) q in
+        let n : length (r .0) ≡ getD b at 0 = several-length field (getD b at 0) (drop (at + countWidth) b) (r .1) (r .0) q in
         rw (fields-of code from to (r .0) c, n, lt-leb (getD b at 0) mostFields m)
 
 -- at most so many: they are what is read after the count
 pub fields-few : (code from to : ℕ) (b : List ℕ) (at : ℕ) (count : ℕ) (r : FieldsRead) → 0 < code → at < length b → count ≡ getD b at 0 → count ≤ mostFields
-    → fieldsRead count r ≡ readAt (several field count) b (at + 1)
+    → fieldsRead count r ≡ readAt (several field count) b (at + countWidth)
     → found (r .end) (operationOf code from to (fieldsAre (take count (r .fields)))) ≡ passed fewFields (readAt (fieldsMade (operationOf code from to)) b at)
 unfolding passed readAt fewFields provided fieldsRead found
-fields-few code from to b at count r c h e m k = rw (fields-from (operationOf code from to) b at h, ← e) (go (r .end) (several field count (drop (at + 1) b)) refl k)
+fields-few code from to b at count r c h e m k = rw (fields-from (operationOf code from to) b at h, ← e) (go (r .end) (several field count (drop (at + countWidth) b)) refl k)
   where
     fs : List model.Field
     fs = fieldsAre (take count (r .fields))
 
-    go : (end : ℕ) (o : Option (List model.Field × List ℕ)) → several field count (drop (at + 1) b) ≡ o → found end fs ≡ placed b o
+    go : (end : ℕ) (o : Option (List model.Field × List ℕ)) → several field count (drop (at + countWidth) b) ≡ o → found end fs ≡ placed b o
         → found end (operationOf code from to fs) ≡ passed fewFields (placed b (madeOf (operationOf code from to) o))
     go zero none q k = refl
     go zero (some x) q k = absurd (Option·none-ne-some (x .0, length b - length (x .1)) k)
@@ -133,42 +132,39 @@ fields-few code from to b at count r c h e m k = rw (fields-from (operationOf co
         let same = Option·some-injective (fs, suc end) (x .0, length b - length (x .1)) k in
         let f : fs ≡ x .0 = ap (λ (z : List model.Field × ℕ). z .0) same in
         let n : suc end ≡ length b - length (x .1) = ap (λ (z : List model.Field × ℕ). z .1) same in
-        let l : length (x .0) ≡ count = several-length field count (drop (at + 1) b) (x .1) (x .0) q in
+        let l : length (x .0) ≡ count = several-length field count (drop (at + countWidth) b) (x .1) (x .0) q in
         rw (fields-of code from to (x .0) c, l, le-leb count mostFields m) (λ i. some (operationOf code from to (f i), n i))
 
 -- ---- the spaces of an operation
 
 -- one space, then the fields
-pub space-there : (made : ℕ → List model.Field → model.Operation) (b : List ℕ) (at : ℕ) → at + 2 ≤ length b
-    → readAt (onSpace made) b at ≡ readAt (fieldsMade (made (getD b at 0))) b (at + 1)
+pub space-there : (code s : ℕ) (b : List ℕ) (at : ℕ) → at + spaceWidth ≤ length b → s ≡ numberAt at spaceWidth b
+    → passed fewFields (readAt (fieldsMade (operationOf code s 0)) b (at + spaceWidth)) ≡ passed fewFields (readAt (onSpace (λ x. operationOf code x 0)) b at)
 unfolding onSpace _>>=_ readAt
-space-there made b at h = rw (fixed-natural spaceWidth (omega arith) .enough b at (omega arith), numberAt-1 at b (omega arith))
+space-there code s b at h e = rw (fixed-natural spaceWidth (omega arith) .enough b at h, e)
 
-pub space-short : (made : ℕ → List model.Field → model.Operation) (b : List ℕ) (at : ℕ) → length b < at + 2 → readAt (onSpace made) b at ≡ none
+pub space-short : (made : ℕ → List model.Field → model.Operation) (b : List ℕ) (at : ℕ) → length b < at + (spaceWidth + countWidth) → readAt (onSpace made) b at ≡ none
 unfolding onSpace _>>=_ counted readAt
-space-short made b at h = go (which (at + 1) (length b))
+space-short made b at h = go (which (at + spaceWidth) (length b))
   where
-    go : (at + 1 ≤ length b) ⊎ (length b < at + 1) → readAt (onSpace made) b at ≡ none
-    go (inl l) = rw (fixed-natural spaceWidth (omega arith) .enough b at l, fixed-byte .short b (at + 1) (omega arith))
+    go : (at + spaceWidth ≤ length b) ⊎ (length b < at + spaceWidth) → readAt (onSpace made) b at ≡ none
+    go (inl l) = rw (fixed-natural spaceWidth (omega arith) .enough b at l, fixed-byte .short b (at + spaceWidth) (omega arith))
     go (inr l) = rw (fixed-natural spaceWidth (omega arith) .short b at l)
 
 -- two spaces, then the fields
-abbrev target : (ℕ → ℕ → List model.Field → model.Operation) → ℕ → Reader model.Operation
-target made from = natural spaceWidth >>= λ to. fieldsMade (made from to)
-
-pub spaces-there : (made : ℕ → ℕ → List model.Field → model.Operation) (b : List ℕ) (at : ℕ) → at + 3 ≤ length b
-    → readAt (onSpaces made) b at ≡ readAt (fieldsMade (made (getD b at 0) (getD b (at + 1) 0))) b (at + 2)
+pub spaces-there : (code from to : ℕ) (b : List ℕ) (at : ℕ) → at + (spaceWidth + spaceWidth) ≤ length b → from ≡ numberAt at spaceWidth b → to ≡ numberAt (at + spaceWidth) spaceWidth b
+    → passed fewFields (readAt (fieldsMade (operationOf code from to)) b (at + (spaceWidth + spaceWidth))) ≡ passed fewFields (readAt (onSpaces (operationOf code)) b at)
 unfolding onSpaces _>>=_ readAt
-spaces-there made b at h =
-    let e : at + 1 + 1 ≡ at + 2 = omega arith in
-    rw (fixed-natural spaceWidth (omega arith) .enough b at (omega arith), fixed-natural spaceWidth (omega arith) .enough b (at + 1) (omega arith), numberAt-1 at b (omega arith), numberAt-1 (at + 1) b (omega arith), e)
+spaces-there code from to b at h e f =
+    let n : at + spaceWidth + spaceWidth ≡ at + (spaceWidth + spaceWidth) = omega arith in
+    rw (fixed-natural spaceWidth (omega arith) .enough b at (omega arith), fixed-natural spaceWidth (omega arith) .enough b (at + spaceWidth) (omega arith), n, e, f)
 
-pub spaces-short : (made : ℕ → ℕ → List model.Field → model.Operation) (b : List ℕ) (at : ℕ) → length b < at + 3 → readAt (onSpaces made) b at ≡ none
+pub spaces-short : (made : ℕ → ℕ → List model.Field → model.Operation) (b : List ℕ) (at : ℕ) → length b < at + (spaceWidth + spaceWidth + countWidth) → readAt (onSpaces made) b at ≡ none
 unfolding onSpaces _>>=_ readAt
-spaces-short made b at h = go (which (at + 1) (length b))
+spaces-short made b at h = go (which (at + spaceWidth) (length b))
   where
-    go : (at + 1 ≤ length b) ⊎ (length b < at + 1) → readAt (onSpaces made) b at ≡ none
-    go (inl l) = rw (fixed-natural spaceWidth (omega arith) .enough b at l) (unfold onSpace _>>=_ readAt in space-short (made (numberAt at spaceWidth b)) b (at + 1) (omega arith))
+    go : (at + spaceWidth ≤ length b) ⊎ (length b < at + spaceWidth) → readAt (onSpaces made) b at ≡ none
+    go (inl l) = rw (fixed-natural spaceWidth (omega arith) .enough b at l) (unfold onSpace _>>=_ readAt in space-short (made (numberAt at spaceWidth b)) b (at + spaceWidth) (omega arith))
     go (inr l) = rw (fixed-natural spaceWidth (omega arith) .short b at l)
 
 -- ---- the reader of an operation, at a position
@@ -183,7 +179,7 @@ row-space (suc (suc (suc (suc zero)))) l m = refl
 row-space (suc (suc (suc (suc (suc zero))))) l m = refl
 row-space (suc (suc (suc (suc (suc (suc n)))))) l m = absurd (omega arith)
 
-row-spaces : (code : ℕ) → 6 ≤ code → code < 8 → getD rows code refuse ≡ onSpaces (operationOf code)
+row-spaces : (code : ℕ) → 6 ≤ code → code < codes → getD rows code refuse ≡ onSpaces (operationOf code)
 unfolding operationOf
 row-spaces zero l m = absurd (omega arith)
 row-spaces (suc zero) l m = absurd (omega arith)
@@ -195,7 +191,7 @@ row-spaces (suc (suc (suc (suc (suc (suc zero)))))) l m = refl
 row-spaces (suc (suc (suc (suc (suc (suc (suc zero))))))) l m = refl
 row-spaces (suc (suc (suc (suc (suc (suc (suc (suc n)))))))) l m = absurd (omega arith)
 
-operation-from : (b : List ℕ) (at : ℕ) → at < length b → readAt operation b at ≡ readAt (getD rows (getD b at 0) refuse) b (at + 1)
+operation-from : (b : List ℕ) (at : ℕ) → at < length b → readAt operation b at ≡ readAt (getD rows (getD b at 0) refuse) b (at + codeWidth)
 unfolding operation chosenBy _>>=_ readAt
 operation-from b at h = rw (fixed-byte .enough b at (omega arith))
 
@@ -204,27 +200,27 @@ unfolding operation chosenBy _>>=_ readAt operationAt passed
 operation-past b at h = rw (fixed-byte .short b at (omega arith))
 
 -- code 0 has no more bytes
-pub operation-always : (b : List ℕ) (at : ℕ) → at < length b → getD b at 0 ≡ 0 → operationAt b at ≡ some (always, at + 1)
+pub operation-always : (b : List ℕ) (at : ℕ) → at < length b → getD b at 0 ≡ 0 → operationAt b at ≡ some (always, at + codeWidth)
 unfolding operationAt passed fewFields fieldsOf provided give
 operation-always b at h e =
-    let k : readAt operation b at ≡ some (always, at + 1) = operation-from b at h ∙ rw e (some-readAt (give always) b (at + 1) always (at + 1) refl (omega arith)) in
+    let k : readAt operation b at ≡ some (always, at + codeWidth) = operation-from b at h ∙ rw e (some-readAt (give always) b (at + codeWidth) always (at + codeWidth) refl (omega arith)) in
     rw k
 
 -- codes 1 to 5
 pub operation-space : (b : List ℕ) (at : ℕ) → at < length b → 0 < getD b at 0 → getD b at 0 < 6
-    → operationAt b at ≡ passed fewFields (readAt (onSpace (λ s. operationOf (getD b at 0) s 0)) b (at + 1))
+    → operationAt b at ≡ passed fewFields (readAt (onSpace (λ s. operationOf (getD b at 0) s 0)) b (at + codeWidth))
 unfolding operationAt
-operation-space b at h l m = ap (passed fewFields) (operation-from b at h ∙ ap (λ (p : Reader model.Operation). readAt p b (at + 1)) (row-space (getD b at 0) l m))
+operation-space b at h l m = ap (passed fewFields) (operation-from b at h ∙ ap (λ (p : Reader model.Operation). readAt p b (at + codeWidth)) (row-space (getD b at 0) l m))
 
 -- codes 6 and 7
-pub operation-spaces : (b : List ℕ) (at : ℕ) → at < length b → 6 ≤ getD b at 0 → getD b at 0 < 8
-    → operationAt b at ≡ passed fewFields (readAt (onSpaces (operationOf (getD b at 0))) b (at + 1))
+pub operation-spaces : (b : List ℕ) (at : ℕ) → at < length b → 6 ≤ getD b at 0 → getD b at 0 < codes
+    → operationAt b at ≡ passed fewFields (readAt (onSpaces (operationOf (getD b at 0))) b (at + codeWidth))
 unfolding operationAt
-operation-spaces b at h l m = ap (passed fewFields) (operation-from b at h ∙ ap (λ (p : Reader model.Operation). readAt p b (at + 1)) (row-spaces (getD b at 0) l m))
+operation-spaces b at h l m = ap (passed fewFields) (operation-from b at h ∙ ap (λ (p : Reader model.Operation). readAt p b (at + codeWidth)) (row-spaces (getD b at 0) l m))
 
 -- no other code
-pub operation-none : (b : List ℕ) (at : ℕ) → at < length b → 8 ≤ getD b at 0 → operationAt b at ≡ none
+pub operation-none : (b : List ℕ) (at : ℕ) → at < length b → codes ≤ getD b at 0 → operationAt b at ≡ none
 unfolding operationAt passed readAt refuse
 operation-none b at h m =
-    let k : readAt operation b at ≡ none = operation-from b at h ∙ ap (λ (p : Reader model.Operation). readAt p b (at + 1)) (List·getD-eq-default rows refuse m) in
+    let k : readAt operation b at ≡ none = operation-from b at h ∙ ap (λ (p : Reader model.Operation). readAt p b (at + codeWidth)) (List·getD-eq-default rows refuse m) in
     rw k

@@ -12,6 +12,7 @@ use lib.Dec.{T}
 use Rattle.basis.specs.Choice.{maybe}
 use Rattle.basis.specs.Logic.{and-l, and-r, both}
 use Rattle.basis.specs.Lists.{all}
+use Rattle.basis.specs.Sizes.{mostFields}
 use Rattle.model.specs.Statement as model
 use Rattle.model.specs.Reading.{Reader, _>>=_, give, several, field}
 use Rattle.statements.specs.At.{Suffix, readAt, found-some, found-none, readAt-some, readAt-none, some-readAt, none-readAt}
@@ -86,11 +87,11 @@ pub record Underway (b : List ℕ) (at count : ℕ) (fields : List Field) (end i
   pub few : i ≤ count
   pub past : 0 < end
   pub within : end ≤ length b
-  pub room : length fields ≡ 6
+  pub room : length fields ≡ mostFields
   pub formed : T (all hasForm fields)
   pub rest : several field count (drop at b) ≡ prepend (fieldsAre (take i fields)) (several field (count - i) (drop end b))
 
-pub fields-start : (b : List ℕ) (at count : ℕ) (fields : List Field) → 0 < at → at ≤ length b → length fields ≡ 6 → T (all hasForm fields) → Underway b at count fields at 0
+pub fields-start : (b : List ℕ) (at count : ℕ) (fields : List Field) → 0 < at → at ≤ length b → length fields ≡ mostFields → T (all hasForm fields) → Underway b at count fields at 0
 unfolding fieldsAre
 fields-start b at count fields h l r t = record {
   few = omega arith;
@@ -106,7 +107,7 @@ fields-set : (fields : List Field) (i : ℕ) (f : Field) → i < length fields �
 unfolding fieldsAre
 fields-set fields i f h = rw (add-one i, take-suc-set fields i f h) (map-append fieldIs (take i fields) (f ∷ []))
 
-pub fields-turn : (b : List ℕ) (at count : ℕ) (fields : List Field) (end i : ℕ) (r : FieldRead) → count ≤ 6 → i < count → Underway b at count fields end i
+pub fields-turn : (b : List ℕ) (at count : ℕ) (fields : List Field) (end i : ℕ) (r : FieldRead) → count ≤ mostFields → i < count → Underway b at count fields end i
     → fieldRead r ≡ readAt field b end → T (hasForm (r .field)) → (r .end ≡ 0 → ⊥) → Underway b at count (set fields i (r .field)) (r .end) (i + 1)
 unfolding fieldRead
 fields-turn b at count fields end i r few h u e t n =

@@ -1,6 +1,4 @@
-pub mod Requests
-pub mod RequestLaws
-pub mod OpenLaws
+pub mod Asks
 pub mod HandleLaws
 pub mod StatementLaws
 pub mod StepLaws

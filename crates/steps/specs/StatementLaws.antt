@@ -2,26 +2,24 @@
 use mathlib.Core.Path.{_≡_, refl, sym, ap, subst, _∙_}
 use mathlib.Core.Logic.{_≢_}
 use Prim.Native.Nat.{ℕ, _≤_, _<_}
-use native.Mathlib.Omega.{arith}
 use native.Mathlib.Nat.{le-refl}
+use native.Mathlib.Omega.{arith}
 use mathlib.Core.Bool.{Bool, true, false, not, cond}
 use mathlib.Core.Option.{Option, none, some}
 use mathlib.Core.List.{List, [], _∷_, flatMap}
 use lib.ListN.{length}
-use lib.Dec.{T, leb}
+use lib.Dec.{T, eqb, leb}
 use lib.Pow.{areBytes}
-use borrow.Author.Tests.{le-leb, lt-leb}
+use borrow.Author.Tests.{lt-leb, eq-eqb}
 use Rattle.basis.specs.Choice.{maybe, firstNumber}
 use Rattle.basis.specs.Logic.{not-not}
 use Rattle.basis.specs.ListLaws.{none-at}
-use Rattle.basis.specs.Numbers.{numberAt}
-use Rattle.basis.specs.Sizes.{lastAt, positionWidth, mostWaiting, mostReply}
+use Rattle.basis.specs.Sizes.{mostWaiting, mostReply}
 use Rattle.model.specs.Statement.{Statement, spacesNamed}
 use Rattle.model.specs.Legal.{legalBody}
-use Rattle.model.specs.Writing.{statementBytes}
-use Rattle.model.specs.ReadBack.{parse-parts, parse-again}
+use Rattle.model.specs.ReadBack.{parse-again}
 use Rattle.model.specs.Execution.{canWait, Executed, attempt, tuplesAfter}
-use Rattle.model.specs.Run.{Run, withTuples, hostUp, isOpen, isDenied, isWaiting, Reply, ranReply}
+use Rattle.model.specs.Run.{Run, withTuples, hostUp, isOpen, isDenied, isWaiting, Reply, ranReply, Turn}
 use Rattle.model.specs.Step.{guarded, standing, access, checks, plainReply, refused, unmet, ran, effect}
 use Rattle.model.specs.Fit.{Fit, Waits}
 use Rattle.model.specs.Effects.{unmet-fit}
@@ -29,14 +27,15 @@ use Rattle.layout.specs.Replies.{repliesBytes}
 use Rattle.layout.specs.ReplyLaws.{reply-length}
 use Rattle.layout.specs.States.{decode}
 use Rattle.layout.specs.Stored.{Stored, Turned, statementOf, legal-parse}
+use Rattle.header.specs.StoredLaws.{stored-says}
 use Rattle.replies.specs.Written.{reply}
-use Rattle.records.specs.Queue.{enqueued}
-use Rattle.records.specs.StoredLaws.{stored-says}
-use Rattle.effects.specs.EffectLaws.{last-is}
-use Rattle.wakes.specs.Turned.{still, MayRun, executed}
-use Rattle.wakes.specs.Answers.{turned-still, one-reply}
-use Rattle.steps.specs.Requests.{Later}
-use Rattle.steps.specs.HandleLaws.{passed, along}
+use Rattle.replies.specs.TurnLaws.{one-reply}
+use Rattle.state.specs.Meaning.{enqueued}
+use Rattle.unmet.specs.Unmet.{answeredBy}
+use Rattle.unmet.specs.UnmetLaws.{answered-refused}
+use Rattle.handling.specs.AnswerLaws.{passed, along}
+use Rattle.running.specs.Executed.{still, MayRun, executed}
+use Rattle.steps.specs.Asks.{Later}
 
 -- ---- no turn
 
@@ -50,8 +49,8 @@ still-stored s buffer state out n t = t .stored
 
 -- ---- a statement that ran
 
-pub ran-at : (b : List ℕ) (st : Statement) (p : ℕ) (buffer state out : List ℕ) (n : ℕ) → p ≡ numberAt lastAt positionWidth b → Turned (executed (decode b) p st) buffer state out n → Turned (executed (decode b) ((decode b) .last) st) buffer state out n
-ran-at b st p buffer state out n e t = subst (λ (k : ℕ). Turned (executed (decode b) k st) buffer state out n) (e ∙ last-is b) t
+pub ran-at : (b : List ℕ) (st : Statement) (p : ℕ) (buffer state out : List ℕ) (n : ℕ) → p ≡ (decode b) .last → Turned (executed (decode b) p st) buffer state out n → Turned (executed (decode b) ((decode b) .last) st) buffer state out n
+ran-at b st p buffer state out n e t = subst (λ (k : ℕ). Turned (executed (decode b) k st) buffer state out n) e t
 
 pub ran-turned : (s : Run) (st : Statement) (buffer state out : List ℕ) (n : ℕ) → Turned (executed s (s .last) st) buffer state out n → n ≢ 0 → Turned (effect s (guarded st)) buffer state out n
 unfolding executed effect ran
@@ -91,19 +90,24 @@ module _ (s : Run) (st : Statement) (buffer state out : List ℕ) (q : Quiet s s
       along (unmet s st) (effect s (guarded st)) buffer state′ out′ n (sym (q .turn)) b
 
 -- a reply with no value, or none
-pub unmet-short : (s : Run) (st : Statement) (n : ℕ) → n ≡ length (repliesBytes ((unmet s st) .replies)) → n ≤ mostReply
-unfolding unmet still
-unmet-short s st n e = omega (arith, e, go (not (canWait st)) (leb mostWaiting (length (s .waiting))))
+pub unmet-short : (s : Run) (st : Statement) (k n : ℕ) → unmet s st ≡ answeredBy k s st → n ≡ length (repliesBytes ((unmet s st) .replies)) → n ≤ mostReply
+unfolding answeredBy
+unmet-short s st k n q e = omega (arith, e, ap (λ (t : Turn). length (repliesBytes (t .replies))) q, go (eqb k 0))
   where
-    refused-short : (k : ℕ) → length (repliesBytes ((refused s (st .host) (st .process) k) .replies)) ≤ mostReply
-    refused-short k =
+    go : (b : Bool) → length (repliesBytes ((cond b (record { run = enqueued s st; replies = [] }) (refused s (st .host) (st .process) k)) .replies)) ≤ mostReply
+    go true = unfold repliesBytes flatMap in omega arith
+    go false =
         let x : Reply = reply (s .last) (st .host) (st .process) k 0 [] in
         unfold refused plainReply in omega (arith, ap length (one-reply x), reply-length x)
 
-    go : (a b : Bool) → length (repliesBytes ((cond a (refused s (st .host) (st .process) 18) (cond b (refused s (st .host) (st .process) 13) (still (enqueued s st)))) .replies)) ≤ mostReply
-    go true b = refused-short 18
-    go false true = refused-short 13
-    go false false = unfold still repliesBytes flatMap in omega arith
+-- ---- by the number that was found
+
+pub unmet-refused : (s : Run) (st : Statement) (k : ℕ) (buffer state out : List ℕ) (n : ℕ) → unmet s st ≡ answeredBy k s st → k ≢ 0 → Turned (refused s (st .host) (st .process) k) buffer state out n → Turned (unmet s st) buffer state out n
+unmet-refused s st k buffer state out n q z t = rw (q, answered-refused s st k z) t
+
+pub unmet-waiting : (s : Run) (st : Statement) (k : ℕ) (state out : List ℕ) → unmet s st ≡ answeredBy k s st → k ≡ 0 → Stored state (enqueued s st) → Turned (unmet s st) out state out 0
+unfolding answeredBy repliesBytes flatMap
+unmet-waiting s st k state out q z h = rw (q, eq-eqb k 0 z) (record { stored = h; bytes = refl; number = refl })
 
 -- ---- what a statement that passes the checks may do
 
@@ -117,20 +121,6 @@ statement-may s body t e =
 module _ (s : Run) (body : List ℕ) where
   abbrev st : Statement
   st = statementOf body
-
-  -- 18
-  pub unmet-18 : (r : Bool) (buffer state out : List ℕ) (n : ℕ) → r ≡ canWait st → r ≡ false → Turned (refused s (st .host) (st .process) 18) buffer state out n → Turned (unmet s st) buffer state out n
-  unfolding unmet
-  unmet-18 r buffer state out n q z k = let c : canWait st ≡ false = sym q ∙ z in rw c k
-
-  -- 13
-  pub unmet-13 : (r : Bool) (m : ℕ) (buffer state out : List ℕ) (n : ℕ) → r ≡ canWait st → r ≡ true → m ≡ length (s .waiting) → mostWaiting ≤ m
-      → Turned (refused s (st .host) (st .process) 13) buffer state out n → Turned (unmet s st) buffer state out n
-  unfolding unmet
-  unmet-13 r m buffer state out n q z em full k =
-      let c : canWait st ≡ true = sym q ∙ z in
-      let f : leb mostWaiting (length (s .waiting)) ≡ true = le-leb mostWaiting (length (s .waiting)) (omega arith) in
-      rw (c, f) k
 
   module _ (t : T (legalBody body)) (small : T (areBytes body)) (later : Later s) (e : firstNumber (checks s (guarded st)) ≡ none) where
     waits : T (canWait st) → Waits (s .last) (s .up) (s .spaces) (record { position = s .last; statement = st })
@@ -158,10 +148,5 @@ module _ (s : Run) (body : List ℕ) where
     waits-fit fitted c f = let k : Fit ((unmet s st) .run) = unmet-fit s fitted st (later .older) alone waits in rw (c, f) at k
 
     -- it waits
-    pub unmet-waits : (fitted : Fit s) (r : Bool) (m : ℕ) (state out : List ℕ) → r ≡ canWait st → r ≡ true → m ≡ length (s .waiting) → m < mostWaiting
-        → ((x : Statement) → statementBytes x ≡ body → Fit (enqueued s x) → Stored state (enqueued s x)) → Turned (unmet s st) out state out 0
-    unfolding unmet still
-    unmet-waits fitted r m state out q z em room put =
-        let c : canWait st ≡ true = sym q ∙ z in
-        let f : leb mostWaiting (length (s .waiting)) ≡ false = lt-leb mostWaiting (length (s .waiting)) (omega arith) in
-        rw (c, f) (turned-still (enqueued s st) state out (put st (parse-parts body st small (legal-parse body t) .bytes) (waits-fit fitted c f)))
+    pub may-wait : (fitted : Fit s) → canWait st ≡ true → length (s .waiting) < mostWaiting → Fit (enqueued s st)
+    may-wait fitted c h = waits-fit fitted c (lt-leb mostWaiting (length (s .waiting)) h)

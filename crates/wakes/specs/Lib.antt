@@ -1,6 +1,3 @@
-pub mod Turned
-pub mod Attempts
-pub mod Answers
-pub mod Queue
+pub mod Woken
 pub mod Turns
 pub mod Settling

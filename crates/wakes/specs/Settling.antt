@@ -11,9 +11,10 @@ use Rattle.model.specs.Settle.{wake-none, wake-shorter, settle-of-calm}
 use Rattle.layout.specs.States.{decode}
 use Rattle.layout.specs.Replies.{replyBytes, repliesBytes}
 use Rattle.layout.specs.Stored.{Stored, Turned}
-use Rattle.tuples.specs.Rows.{rows-append}
-use Rattle.records.specs.StoredLaws.{stored-says}
-use Rattle.wakes.specs.Turned.{Further, still, woken}
+use Rattle.sections.specs.RowLaws.{flatMap-append}
+use Rattle.header.specs.StoredLaws.{stored-says}
+use Rattle.running.specs.Executed.{still}
+use Rattle.wakes.specs.Woken.{Further, woken}
 use Rattle.wakes.specs.Turns.{told-none, told-some}
 
 settle-none : (s : Run) → wake s ≡ none → settle s ≡ record { run = s; replies = [] }
@@ -46,7 +47,7 @@ midway-turn s₀ s own at n buffer out out′ room m e en eo =
     let R : List ℕ = flatMap replyBytes rs in
     let rest : List ℕ = drop own buffer in
     let st = settle-some s (woken s) e in
-    let both : flatMap replyBytes (m .told ++ rs) ≡ B ++ R = rows-append replyBytes (m .told) rs in
+    let both : flatMap replyBytes (m .told ++ rs) ≡ B ++ R = flatMap-append replyBytes (m .told) rs in
     let lf : length (take own buffer ++ B) ≡ at = length-append (take own buffer) B ∙ omega (arith, length-take-le own buffer room, m .number) in
     let now : out ≡ (take own buffer ++ B) ++ drop (length B) rest = m .bytes ∙ sym (append-assoc (take own buffer) B (drop (length B) rest)) in
     let front : take at out ≡ take own buffer ++ B = ap (take at) now ∙ take-at (take own buffer ++ B) (drop (length B) rest) at lf in

@@ -1,5 +1,5 @@
 -- One turn of rule 7: who runs, and that its count of bytes tells whether one did. Assumes nothing.
-use mathlib.Core.Path.{_≡_, refl, sym, subst, _∙_}
+use mathlib.Core.Path.{_≡_, refl, sym, ap, subst, _∙_}
 use Prim.Native.Nat.{ℕ, _≤_, _<_}
 use native.Mathlib.Omega.{arith}
 use mathlib.Core.Option.{Option, none, some, Option·getD}
@@ -10,7 +10,8 @@ use lib.Dec.{T-not}
 use Rattle.basis.specs.Choice.{maybe}
 use Rattle.basis.specs.Lists.{Found, first, removeAt}
 use Rattle.basis.specs.ListLaws.{first-some, first-below}
-use Rattle.basis.specs.Sizes.{replyHeaderSize, waitingCountAt}
+use Rattle.basis.specs.Sizes.{replyHeaderSize}
+use Rattle.model.specs.Matching.{Tuple}
 use Rattle.model.specs.Execution.{Executed, attempt, tuplesAfter}
 use Rattle.model.specs.Run.{Waiting, Run, withTuples, withWaiting, ranReply, Turn, wokenBy, wake}
 use Rattle.model.specs.Settle.{attempt-none, wake-some}
@@ -18,31 +19,58 @@ use Rattle.layout.specs.States.{decode}
 use Rattle.layout.specs.Replies.{repliesBytes}
 use Rattle.layout.specs.ReplyLaws.{reply-length}
 use Rattle.layout.specs.Stored.{IsStored, Turned}
-use Rattle.records.specs.StoredLaws.{waiting-count}
-use Rattle.wakes.specs.Turned.{still, executed, noWaiting, place, oldestReady, wokenAt, woken}
-use Rattle.wakes.specs.Answers.{turned-still, one-reply}
-use Rattle.wakes.specs.Queue.{isReady}
+use Rattle.queue.specs.PlaceLaws.{noWaiting}
+use Rattle.oldest.specs.Searching.{readyIn, oldestOf}
+use Rattle.oldest.specs.declared.Oldest.{Oldest}
+use Rattle.oldest.specs.declared.Oldest.the-variants.{At, Nobody}
+use Rattle.running.specs.Executed.{still, executed}
+use Rattle.running.specs.Answers.{turned-still, one-reply}
+use Rattle.waking.specs.Leaving.{place, wokenAt}
+use Rattle.wakes.specs.Woken.{woken}
+
+-- ---- whom an answer names
+
+index : Oldest → ℕ
+index (At i) = i
+index Nobody = 0
+
+isSomeone : Oldest → ℕ
+isSomeone (At i) = 1
+isSomeone Nobody = 0
+
+some-one : (f : Found Waiting) → oldestOf (some f) ≡ Nobody → ⊥
+unfolding oldestOf isSomeone
+some-one f e = let z : _≡_ {A = ℕ} 1 0 = ap isSomeone e in omega arith
+
+nobody : (i : ℕ) → oldestOf none ≡ At i → ⊥
+unfolding oldestOf isSomeone
+nobody i e = let z : _≡_ {A = ℕ} 0 1 = ap isSomeone e in omega arith
+
+same-index : (f : Found Waiting) (i : ℕ) → oldestOf (some f) ≡ At i → f .index ≡ i
+unfolding oldestOf index
+same-index f i e = ap index e
+
+-- ---- a turn
 
 module _ (s : Run) where
   -- who is found runs
-  woken-found : (f : Found Waiting) → first (isReady s) (s .waiting) ≡ some f → woken s ≡ executed (withWaiting s (removeAt (f .index) (s .waiting))) (f .item .position) (f .item .statement)
+  woken-found : (f : Found Waiting) → first (readyIn (s .tuples)) (s .waiting) ≡ some f → woken s ≡ executed (withWaiting s (removeAt (f .index) (s .waiting))) (f .item .position) (f .item .statement)
   unfolding woken wake executed wokenBy
   woken-found f q = rw q (go (attempt (s .tuples) (f .item .statement)) refl)
     where
       go : (o : Option Executed) → attempt (s .tuples) (f .item .statement) ≡ o
           → Option·getD (maybe o none (λ e. some (wokenBy s f e))) (still s) ≡ maybe o (still (withWaiting s (removeAt (f .index) (s .waiting)))) (λ e. record { run = withTuples (withWaiting s (removeAt (f .index) (s .waiting))) (tuplesAfter (s .tuples) (e .result)); replies = ranReply (f .item .position) (f .item .statement) e ∷ [] })
-      go none r = absurd (T-not (isReady s (f .item)) (attempt-none (s .tuples) (f .item .statement) r) (first-some (isReady s) (s .waiting) f q .passes))
+      go none r = absurd (T-not (readyIn (s .tuples) (f .item)) (attempt-none (s .tuples) (f .item .statement) r) (first-some (readyIn (s .tuples)) (s .waiting) f q .passes))
       go (some e) r = unfold wokenBy in refl
 
   -- none holds
-  woken-none : (i : ℕ) → i ≡ oldestReady s → i ≡ length (s .waiting) → woken s ≡ still s
-  unfolding woken wake oldestReady
-  woken-none i e z = go (first (isReady s) (s .waiting)) refl (sym e ∙ z)
+  woken-none : oldestOf (first (readyIn (s .tuples)) (s .waiting)) ≡ Nobody → woken s ≡ still s
+  unfolding woken wake
+  woken-none e = go (first (readyIn (s .tuples)) (s .waiting)) e
     where
-      go : (o : Option (Found Waiting)) → first (isReady s) (s .waiting) ≡ o → maybe o (length (s .waiting)) (λ f. f .index) ≡ length (s .waiting)
-          → Option·getD (maybe o none (λ f. maybe (attempt (s .tuples) (f .item .statement)) none (λ e. some (wokenBy s f e)))) (still s) ≡ still s
-      go none q e = refl
-      go (some f) q e = absurd (omega (arith, first-below (isReady s) (s .waiting) f (first-some (isReady s) (s .waiting) f q)))
+      go : (o : Option (Found Waiting)) → oldestOf o ≡ Nobody → Option·getD (maybe o none (λ f. maybe (attempt (s .tuples) (f .item .statement)) none (λ e. some (wokenBy s f e)))) (still s) ≡ still s
+      go none e = refl
+      go (some f) e = absurd (some-one f e)
 
   turn-at : (i : ℕ) (f : Found Waiting) → place s i ≡ f .item → i ≡ f .index → wokenAt s i ≡ executed (withWaiting s (removeAt (f .index) (s .waiting))) (f .item .position) (f .item .statement)
   unfolding wokenAt
@@ -53,18 +81,19 @@ module _ (s : Run) where
     pub below : i < length (s .waiting)
     pub turn : wokenAt s i ≡ woken s
 
-  woken-at : (i : ℕ) → i ≡ oldestReady s → (i ≡ length (s .waiting) → ⊥) → WokenAt i
-  unfolding oldestReady place
-  woken-at i e z = go (first (isReady s) (s .waiting)) refl e
+  woken-at : (i : ℕ) → oldestOf (first (readyIn (s .tuples)) (s .waiting)) ≡ At i → WokenAt i
+  unfolding place
+  woken-at i e = go (first (readyIn (s .tuples)) (s .waiting)) refl e
     where
-      go : (o : Option (Found Waiting)) → first (isReady s) (s .waiting) ≡ o → i ≡ maybe o (length (s .waiting)) (λ f. f .index) → WokenAt i
-      go none q e = absurd (z e)
+      go : (o : Option (Found Waiting)) → first (readyIn (s .tuples)) (s .waiting) ≡ o → oldestOf o ≡ At i → WokenAt i
+      go none q e = absurd (nobody i e)
       go (some f) q e =
-          let g = first-some (isReady s) (s .waiting) f q in
-          let p : getD (s .waiting) i noWaiting ≡ f .item = rw (g .split) (getD-at (g .front) (f .item) (g .back) noWaiting i (sym (e ∙ g .index))) in
+          let g = first-some (readyIn (s .tuples)) (s .waiting) f q in
+          let same : i ≡ f .index = sym (same-index f i e) in
+          let p : getD (s .waiting) i noWaiting ≡ f .item = rw (g .split) (getD-at (g .front) (f .item) (g .back) noWaiting i (sym (same ∙ g .index))) in
           record {
-            below = rw e (first-below (isReady s) (s .waiting) f g);
-            turn = turn-at i f (unfold place in p) e ∙ sym (woken-found f q);
+            below = rw same (first-below (readyIn (s .tuples)) (s .waiting) f g);
+            turn = turn-at i f (unfold place in p) same ∙ sym (woken-found f q);
           }
 
   -- a turn has bytes
@@ -91,14 +120,17 @@ module _ (s : Run) where
       go none e = unfold still repliesBytes flatMap in absurd (z e)
       go (some t) e = refl
 
--- ---- as the code tells it, by the index and the count that it reads
+-- ---- as the code tells it, by whom it finds in the sections
 
-module _ (b : List ℕ) (i m : ℕ) (h : IsStored b) (e : i ≡ oldestReady (decode b)) (em : m ≡ getD b waitingCountAt 0) where
-  pub wakes-none : (out : List ℕ) → i ≡ m → Turned (woken (decode b)) out b out 0
-  wakes-none out z = subst (λ (t : Turn). Turned t out b out 0) (sym (woken-none (decode b) i e (z ∙ em ∙ waiting-count b))) (turned-still (decode b) b out h)
+module _ (b : List ℕ) (ts : List Tuple) (ws : List Waiting) (r : Oldest) (h : IsStored b) (et : ts ≡ (decode b) .tuples) (ew : ws ≡ (decode b) .waiting) (e : r ≡ oldestOf (first (readyIn ts) ws)) where
+  found : (o : Oldest) → r ≡ o → oldestOf (first (readyIn ((decode b) .tuples)) ((decode b) .waiting)) ≡ o
+  found o q = (λ k. oldestOf (first (readyIn (sym et k)) (sym ew k))) ∙ sym e ∙ q
 
-  pub wakes-at : (i ≡ m → ⊥) → WokenAt (decode b) i
-  wakes-at z = woken-at (decode b) i e (λ q. z (q ∙ sym (waiting-count b) ∙ sym em))
+  pub wakes-none : (out : List ℕ) → r ≡ Nobody → Turned (woken (decode b)) out b out 0
+  wakes-none out q = subst (λ (t : Turn). Turned t out b out 0) (sym (woken-none (decode b) (found Nobody q))) (turned-still (decode b) b out h)
 
-  pub wakes-some : (buffer state out : List ℕ) (n : ℕ) → (i ≡ m → ⊥) → Turned (wokenAt (decode b) i) buffer state out n → Turned (woken (decode b)) buffer state out n
-  wakes-some buffer state out n z r = subst (λ (t : Turn). Turned t buffer state out n) (wakes-at z .turn) r
+  pub wakes-at : (i : ℕ) → r ≡ At i → WokenAt (decode b) i
+  wakes-at i q = woken-at (decode b) i (found (At i) q)
+
+  pub wakes-some : (i : ℕ) (buffer state out : List ℕ) (n : ℕ) → r ≡ At i → Turned (wokenAt (decode b) i) buffer state out n → Turned (woken (decode b)) buffer state out n
+  wakes-some i buffer state out n q t = subst (λ (t : Turn). Turned t buffer state out n) (wakes-at i q .turn) t

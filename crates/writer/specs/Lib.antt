@@ -1,10 +1,5 @@
-pub mod Writer
-pub mod Room
-pub mod Puts
-pub mod Parts
+pub mod HasBytes
+pub mod HeldLaws
 pub mod Tests
-pub mod Grown
-pub mod LastCount
-pub mod Answers
+pub mod Writer
 pub mod WriterLaws
-pub mod WriterCases

@@ -24,7 +24,7 @@ use Rattle.statements.specs.declared.Field.{Field}
 use Rattle.statements.specs.declared.Operation.{Operation}
 use Rattle.statements.specs.Flat.{codes, forms, hasForm, fieldsAre, operationOf, operationIs}
 use Rattle.writer.specs.Writer.{trueCode, twoSpaces, isHanded, handed}
-use Rattle.writer.specs.Parts.{hasBytes, spaces-one, spaces-two}
+use Rattle.writer.specs.HasBytes.{hasBytes, spaces-one, spaces-two}
 
 -- ---- the forms of fields, one by one
 

@@ -1,6 +1,8 @@
 //! Times calls of the library, in units of one word-wise pass over 24,768 bytes in the same run.
 //!
 //!     bench [SAMPLES]
+//!     bench --plain [SAMPLES]    for programs: lines of name, tab, check of the state, tab, whole call, in least ns
+//!     bench --asked              such a line, of samples of some milliseconds, for each name that is a line of input
 //!
 //! Buffers are warm: each sample copies a state to the one buffer and times a call on it. The check of the
 //! state is timed by the same call with an unknown mark, which check 3 turns back; the rest is what the call
@@ -8,13 +10,18 @@
 
 use harness::library::{Calls, LIBRARY, REFERENCE};
 use harness::program::{path, printed, Pieces};
+use harness::ratios::line;
 use harness::rows::{self, Row};
 use std::hint::black_box;
-use std::time::Instant;
+use std::io::stdin;
+use std::time::{Duration, Instant};
 
 const SAMPLES: usize = 4_000;
 /// A call that is turned back leaves its buffers as they were, so that many can be timed at once.
 const AT_ONCE: usize = 32;
+/// How long a row is timed where it is asked for, and how often at least.
+const ASKED: Duration = Duration::from_millis(5);
+const ASKED_SAMPLES: usize = 4;
 
 /// Least and median nanoseconds.
 #[derive(Clone, Copy)]
@@ -82,13 +89,14 @@ impl Timed<'_> {
         })
     }
 
-    /// Check of the state, whole call, and rest. A sample has both calls, on two states where there are many.
-    fn taken(&mut self, samples: usize) -> [Times; 3] {
+    /// Check of the state, so many at once, whole call, and rest. A sample has both calls, on two states where
+    /// there are many.
+    fn taken(&mut self, numbers: impl Iterator<Item = usize>, at_once: usize) -> [Times; 3] {
         let record = self.row.record.clone();
         let unknown = [b"XX", &record[2..]].concat();
-        let [mut check, mut whole, mut rest] = [(); 3].map(|()| Vec::with_capacity(samples));
-        for number in 0..samples {
-            check.push(self.call(&unknown, number, 1));
+        let [mut check, mut whole, mut rest] = [(); 3].map(|()| Vec::new());
+        for number in numbers {
+            check.push(self.call(&unknown, number, at_once));
             whole.push(self.call(&record, number + self.row.states.len() / 2, 1));
             rest.push(whole[number] - check[number]);
         }
@@ -97,9 +105,9 @@ impl Timed<'_> {
         [check, whole, rest]
     }
 
-    fn refused(&mut self, samples: usize) -> Times {
+    fn refused(&mut self, numbers: impl Iterator<Item = usize>) -> Times {
         let record = self.row.record.clone();
-        summed((0..samples).map(|number| self.call(&record, number, AT_ONCE)).collect())
+        summed(numbers.map(|number| self.call(&record, number, AT_ONCE)).collect())
     }
 }
 
@@ -118,8 +126,8 @@ fn print_taken(rows: &[Row], samples: usize, unit: f64, clock: f64) {
     println!("{:46}    least   median    least   median   ns, least  x whole", "");
     for row in rows {
         agree(row);
-        let [check, whole, rest] = Timed::new(LIBRARY, row, clock).taken(samples);
-        let [_, second, _] = Timed::new(REFERENCE, row, clock).taken(samples / 20);
+        let [check, whole, rest] = Timed::new(LIBRARY, row, clock).taken(0..samples, 1);
+        let [_, second, _] = Timed::new(REFERENCE, row, clock).taken(0..samples / 20, 1);
         let columns = [check.least, check.median, rest.least, rest.median].map(|time| time / unit);
         let columns: String = columns.iter().map(|units| format!(" {units:8.2}")).collect();
         println!("{:46}{columns} {:11.0} {:8.1}", row.name, whole.least, second.least / whole.least);
@@ -130,8 +138,8 @@ fn print_refused(rows: &[Row], samples: usize, unit: f64, clock: f64) {
     println!("\nin units{:38}    least   median   ns, least  second, x whole", "");
     for row in rows {
         agree(row);
-        let whole = Timed::new(LIBRARY, row, clock).refused(samples);
-        let second = Timed::new(REFERENCE, row, clock).refused(samples / 20);
+        let whole = Timed::new(LIBRARY, row, clock).refused(0..samples);
+        let second = Timed::new(REFERENCE, row, clock).refused(0..samples / 20);
         let columns = [whole.least, whole.median].map(|time| time / unit);
         let columns: String = columns.iter().map(|units| format!(" {units:8.3}")).collect();
         println!("{:46}{columns} {:11.1} {:8.1}", row.name, whole.least, second.least / whole.least);
@@ -151,8 +159,7 @@ fn print_program() {
     }
 }
 
-fn main() {
-    let samples = std::env::args().nth(1).and_then(|word| word.parse().ok()).unwrap_or(SAMPLES);
+fn print_all(samples: usize) {
     let clock = clock();
     let unit = unit(samples, clock);
     println!("unit: a pass over 24,768 bytes, least {:.0} ns, median {:.0} ns\n", unit.least, unit.median);
@@ -160,5 +167,50 @@ fn main() {
     print_refused(&rows::refused(), samples, unit.least, clock);
     if path().exists() {
         print_program();
+    }
+}
+
+/// The plain line of a row.
+fn plain(row: &Row, is_taken: bool, numbers: impl Iterator<Item = usize>, clock: f64) -> String {
+    let mut timed = Timed::new(LIBRARY, row, clock);
+    if !is_taken {
+        return line(row.name, [None, Some(timed.refused(numbers).least)]);
+    }
+    let [check, whole, _] = timed.taken(numbers, if row.is_brief { AT_ONCE } else { 1 });
+    line(row.name, [Some(check.least), Some(whole.least)])
+}
+
+/// Rows, and whether they are taken.
+fn all() -> impl Iterator<Item = (Row, bool)> {
+    let taken = rows::taken().into_iter().map(|row| (row, true));
+    taken.chain(rows::refused().into_iter().map(|row| (row, false)))
+}
+
+fn print_plain(samples: usize) {
+    let clock = clock();
+    for (row, is_taken) in all() {
+        agree(&row);
+        println!("{}", plain(&row, is_taken, 0..samples, clock));
+    }
+}
+
+/// Answers a name that no row has with an empty line.
+fn print_asked() {
+    let (clock, all) = (clock(), all().collect::<Vec<(Row, bool)>>());
+    for name in stdin().lines().map_while(Result::ok) {
+        let start = Instant::now();
+        let numbers = (0..).take_while(|number| *number < ASKED_SAMPLES || start.elapsed() < ASKED);
+        let found = all.iter().find(|(row, _)| row.name == name);
+        println!("{}", found.map_or(String::new(), |(row, is_taken)| plain(row, *is_taken, numbers, clock)));
+    }
+}
+
+fn main() {
+    let words: Vec<String> = std::env::args().skip(1).collect();
+    let samples = |at: usize| words.get(at).and_then(|word| word.parse().ok()).unwrap_or(SAMPLES);
+    match words.first().map(String::as_str) {
+        Some("--plain") => print_plain(samples(1)),
+        Some("--asked") => print_asked(),
+        _ => print_all(samples(0)),
     }
 }

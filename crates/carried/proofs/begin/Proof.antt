@@ -51,10 +51,10 @@ use Rattle.writer.proofs.Added as R
 use Rattle.writer.proofs.Added.Laws as R′
 use Rattle.carried.proofs.Held.{fill-fits, answer-fits}
 use Rattle.carried.proofs.Again.{LentAgain, lends-again, comes-back}
-use Rattle.writer.proofs.begin_at as begin-at
-use Rattle.writer.proofs.begin_at.Symbol as begin-at-def
-use Rattle.writer.proofs.begin_at.Symbol.{name as #writer·begin-at}
-use Rattle.writer.proofs.begin_at.Met as begin-at-thm
+use Rattle.additions.proofs.begin_at as begin-at
+use Rattle.additions.proofs.begin_at.Symbol as begin-at-def
+use Rattle.additions.proofs.begin_at.Symbol.{name as #additions·begin-at}
+use Rattle.additions.proofs.begin_at.Met as begin-at-thm
 use Rattle.carried.proofs.begin.Key.{name as #carried·begin}
 use Rattle.carried.proofs.begin as begin
 use Rattle.carried.proofs.begin.Statement as stated
@@ -125,7 +125,7 @@ module _ {M : Type 1} (𝓤 : URA M) (H : Heap 𝓤) (A : Atoms 𝓤) (W : Given
       use1 W (‵ (T.the-row α .own (record { buffer = x γ zs; fill = r .fill; answer = r .answer }) (mach (r .fill) (r .answer) ∷ []))) (makes 𝓤 H A W (MutSlice (named 0) κ u8 ∷ usize ∷ u8 ∷ []) (given-on r zs) (s ∷ [], (vint w64 (r .fill) ∷ [], (vint w8 (r .answer) ∷ [], tt)))) $
       nothing ! $ owned ! I.the-row (Is I.the-row) (LL.makes I.the-type I′.the-plain 𝓤 H A) v _ v-is $ fjoin ! $ owned ! u16 (Is u16) (uint-makes 𝓤 H A W w16) k _ (refl, k-fits) $ fjoin ! $ owned ! u8 (Is u8) (uint-makes 𝓤 H A W w8) n _ (refl, n-fits) $ fjoin ! $ nothing ! $ fjoin ! $ done !
 
-  module _ (C : Calls 𝓤 H) (Λ : Loops 𝓤 H) (fm : FmC 𝓤 H (W .laws) C) (known : Triple 𝓤 (C #writer·begin-at) (BeginAt 𝓤 H A mem run)) where
+  module _ (C : Calls 𝓤 H) (Λ : Loops 𝓤 H) (fm : FmC 𝓤 H (W .laws) C) (known : Triple 𝓤 (C #additions·begin-at) (BeginAt 𝓤 H A mem run)) where
     walk : Room u8 (length ys) → ent 𝓤 (onEntry 𝓤 H A begin.signature (κ, tt) (q, tt) a vals) (WpFn 𝓤 H C Λ code.function (s ∷ vint w8 n ∷ vint w16 k ∷ mv ∷ []) Post)
     walk room =
         qed W ((‵ (flft κ q) ⊛ ‵ ftrue) ∷ ‵ (owns (MutSlice (named 0) κ u8 ∷ u8 ∷ u16 ∷ I.the-row ∷ []) a vals) ∷ []) ∵ enter ! C Λ code.function (s ∷ vint w8 n ∷ vint w16 k ∷ mv ∷ []) _ $
@@ -158,13 +158,13 @@ module _ {M : Type 1} (𝓤 : URA M) (H : Heap 𝓤) (A : Atoms 𝓤) (W : Given
         keep ! (1 ∷ 0 ∷ []) $ by ! (exits r (zs .0) e (fill-fits r w is) (answer-fits r w is))))))))))))))))))))
 
 module _ {M : Type 1} (𝓤 : URA M) (H : Heap 𝓤) (A : Atoms 𝓤) (W : Given 𝓤 H A) (mem : Memory → SProp 𝓤) (run : Routine → Fun 𝓤) where
-  begin-walks : (C : Calls 𝓤 H) (Λ : Loops 𝓤 H) → FmC 𝓤 H (W .laws) C → Triple 𝓤 (C #writer·begin-at) (BeginAt 𝓤 H A mem run) → Walks 𝓤 H A begin.ended stayed (WpFn 𝓤 H C Λ code.function) (begin.clauses 𝓤 H A mem run)
+  begin-walks : (C : Calls 𝓤 H) (Λ : Loops 𝓤 H) → FmC 𝓤 H (W .laws) C → Triple 𝓤 (C #additions·begin-at) (BeginAt 𝓤 H A mem run) → Walks 𝓤 H A begin.ended stayed (WpFn 𝓤 H C Λ code.function) (begin.clauses 𝓤 H A mem run)
   begin-walks C Λ fm known = walked 𝓤 H A begin.ended stayed (begin.clauses 𝓤 H A mem run) (WpFn 𝓤 H C Λ code.function)
       (λ κs. (slice-vals, (uint-vals w8, (uint-vals w16, (LL.vals I.the-type I′.the-laws, tt))))) (λ κs. (mut-slice-tells (named 0) (κs .0) u8, (uint-tells w8, (uint-tells w16, (LL.tells I.the-type I′.the-laws, tt)))))
       (λ κs qs bounds a g are. via 𝓤 _ (fst∗ 𝓤 _ (emp 𝓤))
       (walk 𝓤 H A W mem run (κs .0) (qs .0) (a .0 .ptr .0) (a .0 .ptr .1) (a .0 .name) (a .0 .now) (a .1 .0) (a .1 .1 .0) (a .1 .1 .1 .0) (are .1 .0 .1) (are .1 .1 .0 .1) (are .1 .1 .1 .0) C Λ fm known (are .0 .0 .1)))
 
-begin-meets : {M : Type 1} (𝓤 : URA M) (H : Heap 𝓤) (A : Atoms 𝓤) → Given 𝓤 H A → (mem : Memory → SProp 𝓤) (run : Routine → Fun 𝓤) (𝓣 : Tables 𝓤 H) → Triple 𝓤 (𝓣 .C #writer·begin-at) (BeginAt 𝓤 H A mem run)
+begin-meets : {M : Type 1} (𝓤 : URA M) (H : Heap 𝓤) (A : Atoms 𝓤) → Given 𝓤 H A → (mem : Memory → SProp 𝓤) (run : Routine → Fun 𝓤) (𝓣 : Tables 𝓤 H) → Triple 𝓤 (𝓣 .C #additions·begin-at) (BeginAt 𝓤 H A mem run)
     → Meets 𝓤 H A begin.signature (WpFn 𝓤 H (𝓣 .C) (𝓣 .Λ) code.function) (begin.spec 𝓤 H A mem run)
 begin-meets 𝓤 H A W mem run 𝓣 known =
     walk-meets 𝓤 H A begin.ended stayed W (goes-spent-slice 𝓤 H A W 1 (0 ∷ []) tt (plain (λ _. u8)), (goes-none 𝓤 H A W 1 (λ _. u8) yes (λ κs x f. refl), (goes-none 𝓤 H A W 1 (λ _. u16) yes (λ κs x f. refl), (goes-none 𝓤 H A W 1 (λ _. I.the-row) yes (λ κs x f. refl), tt)))) (begin.clauses 𝓤 H A mem run)
@@ -176,4 +176,4 @@ begin-spec 𝓤 H 𝓜 𝓖 𝓡 =
     entered 𝓤 H (tripleOf 𝓤 H (𝓖 .A) begin.signature (begin.spec 𝓤 H (𝓖 .A) (𝓜 .mem) (𝓡 .run)))
     (tables 𝓤 H 𝓜 𝓡 code.env .C) (tables 𝓤 H 𝓜 𝓡 code.env .Λ) #carried·begin code.function (code.unfolded 𝓤 H 𝓜 𝓡)
     (begin-meets 𝓤 H (𝓖 .A) (givenOf 𝓤 H 𝓜 𝓖) (𝓜 .mem) (𝓡 .run) (tablesOf 𝓤 H 𝓜 (tables 𝓤 H 𝓜 𝓡 code.env))
-    (cited 𝓤 H (BeginAt 𝓤 H (𝓖 .A) (𝓜 .mem) (𝓡 .run)) 𝓜 𝓡 code.env #writer·begin-at begin-at-def.routine code.calls-writer·begin-at (begin-at-thm.met 𝓤 H 𝓜 𝓖 𝓡)))
+    (cited 𝓤 H (BeginAt 𝓤 H (𝓖 .A) (𝓜 .mem) (𝓡 .run)) 𝓜 𝓡 code.env #additions·begin-at begin-at-def.routine code.calls-additions·begin-at (begin-at-thm.met 𝓤 H 𝓜 𝓖 𝓡)))

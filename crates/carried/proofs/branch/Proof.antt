@@ -45,7 +45,8 @@ use Rattle.carried.specs.declared.Writer.{Writer}
 use Rattle.statements.specs.declared.Operation.{Operation}
 use Rattle.writer.specs.declared.Added.{Added}
 use Rattle.writer.specs.Writer.{Written, writtenIs, addBranch}
-use Rattle.carried.specs.Held.{shown, onward}
+use Rattle.carried.specs.Held.{shown}
+use Rattle.chains.specs.Chains.{onward}
 use Rattle.carried.specs.HeldLaws.{held-after}
 use Rattle.carried.proofs.Writer as T
 use Rattle.carried.proofs.Writer.Laws as T′

@@ -3,8 +3,8 @@ use mathlib.Core.Path.{sym, _∙_}
 use denote.Ref.{now}
 use borrow.Author.Needs.{needs}
 use Rattle.writer.specs.Writer.{addBranch}
-use Rattle.carried.specs.Held.{left}
-use Rattle.carried.specs.HeldLaws.{left-told, refusal-stays, goes-on}
+use Rattle.chains.specs.Chains.{left}
+use Rattle.chains.specs.ChainLaws.{left-told, refusal-stays, goes-on}
 use Rattle.carried.proofs.branch_after.Statement.{statement}
 use Rattle.carried.proofs.branch_after.Tie as tie
 

@@ -41,8 +41,9 @@ use Rattle.statements.specs.declared.Operation.{Operation}
 use Rattle.writer.specs.declared.Added.{Added}
 use Rattle.writer.specs.Writer.{writtenIs, beginOn, addOperation, addBranch}
 use Rattle.carried.specs.declared.Writer.{Writer}
-use Rattle.carried.specs.Held.{shown, begunOn, operationOn, branchOn, onward}
-use Rattle.carried.specs.HeldLaws.{length-begin, length-operation, length-branch, length-onward}
+use Rattle.carried.specs.Held.{shown, begunOn, operationOn, branchOn}
+use Rattle.chains.specs.Chains.{onward}
+use Rattle.chains.specs.ChainLaws.{length-begin, length-operation, length-branch, length-onward}
 use Rattle.carried.proofs.Writer as T
 use Rattle.carried.proofs.Writer.Laws as T′
 use Rattle.statements.proofs.Operation as I

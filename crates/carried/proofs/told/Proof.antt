@@ -32,7 +32,7 @@ use denote.Triple.Walked.{says, Stays, walkOf, Walks, ends-at, walked, walk-meet
 use denote.Signature.{namedLft}
 use Rattle.carried.specs.declared.Writer.{Writer}
 use Rattle.writer.specs.declared.Added.{Added}
-use Rattle.carried.specs.HeldLaws.{left-told}
+use Rattle.chains.specs.ChainLaws.{left-told}
 use Rattle.carried.proofs.Writer as T
 use Rattle.carried.proofs.Writer.Laws as T′
 use Rattle.writer.proofs.Added as R

@@ -1,5 +1,5 @@
 -- `effects::take_crash` meets its contract. Assumes nothing.
-use Rattle.records.specs.StoredLaws.{said}
+use Rattle.header.specs.StoredLaws.{said}
 use Rattle.effects.specs.EffectLaws.{crash-answered}
 use borrow.Author.Needs.{needs}
 use Rattle.effects.proofs.take_crash.Statement.{statement}
@@ -8,17 +8,29 @@ use Rattle.effects.proofs.take_crash.Tie as tie
 crash-requires : tie.Need-crash-requires
 crash-requires c κs = search needs
 
+-- the moments before the reply
+module _ (c : tie.After-answer-up-arg2) where
+  abbrev done : tie.After-crash
+  done = c .before .before .before .before
+
+  abbrev first : tie.Start
+  first = done .before .before .before .before
+
 answer-up-requires : tie.Need-answer-up-requires
-answer-up-requires c κs = (said _ _ (c .before .before .before .before .crash .ensures), c .before .before .before .before .before .before .before .before .pre .4)
+answer-up-requires c κs = (said _ _ (done c .crash .ensures), first c .pre .4)
 
 same-length : tie.Need-same-length
-same-length c = search needs
+same-length c = done (c .before .before .before) .crash .kept .0
 
 same-length-2 : tie.Need-same-length-2
-same-length-2 c = search needs
+same-length-2 c = c .before .before .answer-up .kept .1 .0
 
 returns : tie.Need-returns
-returns c = let a = c .before .before .before .before .before .before .before .before .before .before .before .args in crash-answered (a .state .now) (c .before .before .before .before .before .before .before .crash .last .0) (a .out .now) _ (a .host) (c .before .before .answer-up .result) (c .before .before .before .before .before .before .before .crash .ensures) (c .before .before .answer-up .ensures)
+returns c =
+    let answered = c .before .before in
+    let m = answered .before in
+    let a = first m .args in
+    crash-answered (a .state .now) _ (a .out .now) _ (a .host) _ (done m .crash .ensures) (answered .answer-up .ensures)
 
 pub take-crash-spec : {M : Type 1} → statement M
 take-crash-spec =

@@ -1,39 +1,46 @@
 -- `effects::take_monitor` meets its contract. Assumes nothing.
 use native.Mathlib.Omega.{arith}
-use Rattle.records.specs.StoredLaws.{stored-length}
+use Rattle.header.specs.RowLaws.{stored-length}
 use Rattle.effects.specs.EffectLaws.{monitor-answered}
-use borrow.Author.Needs.{needs}
 use Rattle.effects.proofs.take_monitor.Statement.{statement}
 use Rattle.effects.proofs.take_monitor.Tie as tie
 
 monitor-requires : tie.Need-monitor-requires
-monitor-requires c κs = search needs
+monitor-requires c κs = let first = c .before .before .before in (first .pre .0, first .pre .1)
 
-word4-requires : tie.Need-word4-requires
-word4-requires c κs = omega (arith, stored-length _ _ (c .before .before .before .monitor .ensures .1))
+-- the moments before the reply
+module _ (c : tie.After-last) where
+  abbrev done : tie.After-monitor
+  done = c .before .before .before .before
 
-cast-number-reply : tie.Need-cast-number-reply
-cast-number-reply c = search needs
+  abbrev first : tie.Start
+  first = done .before .before .before .before
+
+last-requires : tie.Need-last-requires
+last-requires c κs = omega (arith, stored-length _ _ (c .before .before .before .monitor .ensures .1))
 
 number-reply-requires : tie.Need-number-reply-requires
-number-reply-requires c κs = search needs
+number-reply-requires c κs = first (c .before) .pre .2
 
 same-length : tie.Need-same-length
-same-length c = search needs
+same-length c = done (c .before .before .before .before) .monitor .kept .0
 
 same-length-2 : tie.Need-same-length-2
-same-length-2 c = search needs
+same-length-2 c = c .before .before .number-reply .kept .0
 
 returns : tie.Need-returns
-returns c = let a = c .before .before .before .before .before .before .before .before .before .before .before .before .args in monitor-answered (a .state .now) (c .before .before .before .before .before .before .before .before .monitor .last .0) (a .out .now) (c .before .before .number-reply .last .0) (a .host) (a .process) (c .before .before .before .before .before .before .before .before .monitor .result) (c .before .before .before .before .word4 .result) (c .before .before .number-reply .result) (c .before .before .before .before .before .before .before .before .monitor .ensures .1) (c .before .before .before .before .before .before .before .before .monitor .ensures .0) (c .before .before .before .before .word4 .ensures) (c .before .before .number-reply .ensures)
+returns c =
+    let answered = c .before .before in
+    let m = answered .before .before in
+    let a = first m .args in
+    monitor-answered (a .state .now) _ (a .out .now) _ (a .host) (a .process) _ _ _ (done m .monitor .ensures .1) (done m .monitor .ensures .0) (m .last .ensures .0) (answered .number-reply .ensures)
 
 pub take-monitor-spec : {M : Type 1} → statement M
 take-monitor-spec =
     tie.close
     (tie.spec
     monitor-requires
-    word4-requires
-    cast-number-reply
+    last-requires
     number-reply-requires
     same-length
     same-length-2

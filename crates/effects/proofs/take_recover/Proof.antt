@@ -1,5 +1,5 @@
 -- `effects::take_recover` meets its contract. Assumes nothing.
-use Rattle.records.specs.StoredLaws.{said}
+use Rattle.header.specs.StoredLaws.{said}
 use Rattle.effects.specs.EffectLaws.{recover-answered}
 use borrow.Author.Needs.{needs}
 use Rattle.effects.proofs.take_recover.Statement.{statement}
@@ -8,17 +8,29 @@ use Rattle.effects.proofs.take_recover.Tie as tie
 recover-requires : tie.Need-recover-requires
 recover-requires c κs = search needs
 
+-- the moments before the reply
+module _ (c : tie.After-answer-up-arg2) where
+  abbrev done : tie.After-recover
+  done = c .before .before .before .before
+
+  abbrev first : tie.Start
+  first = done .before .before .before .before
+
 answer-up-requires : tie.Need-answer-up-requires
-answer-up-requires c κs = (said _ _ (c .before .before .before .before .recover .ensures), c .before .before .before .before .before .before .before .before .pre .3)
+answer-up-requires c κs = (said _ _ (done c .recover .ensures), first c .pre .3)
 
 same-length : tie.Need-same-length
-same-length c = search needs
+same-length c = done (c .before .before .before) .recover .kept .0
 
 same-length-2 : tie.Need-same-length-2
-same-length-2 c = search needs
+same-length-2 c = c .before .before .answer-up .kept .1 .0
 
 returns : tie.Need-returns
-returns c = let a = c .before .before .before .before .before .before .before .before .before .before .before .args in recover-answered (a .state .now) (c .before .before .before .before .before .before .before .recover .last .0) (a .out .now) _ (a .host) (c .before .before .answer-up .result) (c .before .before .before .before .before .before .before .recover .ensures) (c .before .before .answer-up .ensures)
+returns c =
+    let answered = c .before .before in
+    let m = answered .before in
+    let a = first m .args in
+    recover-answered (a .state .now) _ (a .out .now) _ (a .host) _ (done m .recover .ensures) (answered .answer-up .ensures)
 
 pub take-recover-spec : {M : Type 1} → statement M
 take-recover-spec =

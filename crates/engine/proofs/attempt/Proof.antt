@@ -11,12 +11,12 @@ use Rattle.basis.specs.Sizes.{tuplesSize, mostTuples}
 use Rattle.model.specs.Statement.{operations}
 use Rattle.model.specs.Matching.{unbound}
 use Rattle.model.specs.Execution.{performAll}
-use Rattle.tuples.specs.Section.{tuplesOf, Section}
-use Rattle.tuples.specs.SectionLaws.{holds-length}
-use Rattle.engine.specs.Performing.{Leaves}
+use Rattle.tuples.specs.Section.{tupleShape, tuplesOf, Section}
+use Rattle.sections.specs.Shapes.{holds-length}
+use Rattle.operations.specs.Performing.{Leaves}
 use Rattle.layout.specs.Stored.{statementOf}
-use Rattle.engine.specs.Branches.{body-is}
-use Rattle.engine.specs.Searching.{branchAt}
+use Rattle.guards.specs.Branches.{body-is}
+use Rattle.guards.specs.Searching.{branchAt}
 use Rattle.engine.specs.Attempting.{picked-branch, attempt-none, attempt-fails, attempt-done, copied-out, copied-in}
 use Rattle.engine.proofs.attempt.Statement.{statement}
 use Rattle.engine.proofs.attempt.Tie as tie
@@ -32,22 +32,22 @@ module _ (c : tie.After-search) where
   section = now (start .args .tuples)
 
   size : length section ≡ tuplesSize
-  size = holds-length _ _ _ (start .pre .0)
+  size = holds-length tupleShape _ _ _ (start .pre .0)
 
 -- the branch runs on a copy
-module _ (c : tie.After-copy-part) where
+module _ (c : tie.After-copy-rows) where
   abbrev choice : tie.After-search
   choice = c .before .before .before .before .before
 
-  copied : c .copy-part .last .0 ≡ section choice
+  copied : c .copy-rows .last .0 ≡ section choice
   unfolding zeros
-  copied = c .copy-part .ensures ∙ copied-out (section choice) (start choice .args .n) (start choice .pre .0)
+  copied = c .copy-rows .ensures ∙ copied-out (section choice) (start choice .args .n) (start choice .pre .0)
 
   some-branch : choice .search .result .branch ≡ 0 → ⊥
   some-branch = c .before .before .before .if1 .left
 
 module _ (c : tie.After-run-branch) where
-  abbrev copy : tie.After-copy-part
+  abbrev copy : tie.After-copy-rows
   copy = c .before .before .before
 
   left-is : Leaves (performAll (operations (branchAt (bytes (choice copy)) ((choice copy) .search .result .at))) unbound (tuplesOf (section (choice copy)) (start (choice copy) .args .n)))
@@ -60,7 +60,7 @@ module _ (c : tie.After-run-branch) where
   same-size = c .run-branch .kept .0 ∙ ap length (copied copy)
 
 search-requires : tie.Need-search-requires
-search-requires c κs = let pre = c .before .before .before .pre in (holds-length _ _ _ (pre .0), pre .0 .few, pre .1)
+search-requires c κs = let pre = c .before .before .before .pre in (holds-length tupleShape _ _ _ (pre .0), pre .0 .few, pre .1)
 
 no-vars-requires : tie.Need-no-vars-requires
 no-vars-requires c κs = search needs
@@ -73,14 +73,11 @@ returns c =
     let at = c .before .before .before in
     attempt-none (bytes at) (statementOf (bytes at)) (section at) (start at .args .n) (start at .pre .0) (at .search .result .branch) (at .search .result .at) (at .search .ensures) (c .before .if1 .taken) 0 (c .no-vars .result)
 
-slice-aggregate-copy-part : tie.Need-slice-aggregate-copy-part
-slice-aggregate-copy-part c = search needs
+slice-aggregate-copy-rows : tie.Need-slice-aggregate-copy-rows
+slice-aggregate-copy-rows c = search needs
 
-mul-copy-part : tie.Need-mul-copy-part
-mul-copy-part c = search needs
-
-copy-part-requires : tie.Need-copy-part-requires
-copy-part-requires c κs =
+copy-rows-requires : tie.Need-copy-rows-requires
+copy-rows-requires c κs =
     let at = c .before .before .before .before in
     let long = size at in
     let few = start at .pre .0 .few in
@@ -109,11 +106,14 @@ returns-2 c =
     attempt-fails (bytes at) (statementOf (bytes at)) (section at) (start at .args .n) (start at .pre .0) (at .search .result .branch) (at .search .result .at) (at .search .ensures) (some-branch (copy run))
     (r .outcome) (r .n) (r .vars) (run .run-branch .last .0) (left-is run) (c .if2 .taken)
 
-slice-aggregate-copy-part-2 : tie.Need-slice-aggregate-copy-part-2
-slice-aggregate-copy-part-2 c = search needs
+slice-aggregate-copy-rows-2 : tie.Need-slice-aggregate-copy-rows-2
+slice-aggregate-copy-rows-2 c = search needs
 
 larger-requires : tie.Need-larger-requires
-larger-requires c κs = search needs
+larger-requires c κs =
+    let ran = c .before .before .before .before .before .before in
+    let held : Section (ran .run-branch .last .0) (ran .run-branch .result .n) = left-is ran .section (c .before .before .if2 .left) in
+    (start (choice (copy ran)) .pre .0 .few, held .few)
 
 -- what is copied back
 module _ (c : tie.After-larger) where
@@ -127,20 +127,17 @@ module _ (c : tie.After-larger) where
   after = left-is run .section (c .before .before .before .if2 .left)
 
   few : c .larger .result ≤ mostTuples
-  few = c .larger .ensures .2 (start first .pre .0 .few) (after .few)
+  few = c .larger .ensures .2
 
-mul-copy-part-2 : tie.Need-mul-copy-part-2
-mul-copy-part-2 c = let l = few c in search needs
-
-copy-part-requires-2 : tie.Need-copy-part-requires-2
-copy-part-requires-2 c κs =
+copy-rows-requires-2 : tie.Need-copy-rows-requires-2
+copy-rows-requires-2 c κs =
     let l = few c in
     let long = size (first c) in
     let same = same-size (run c) in
     (omega arith, omega arith)
 
 same-length-3 : tie.Need-same-length-3
-same-length-3 c = c .before .before .copy-part2 .kept .0
+same-length-3 c = c .before .before .copy-rows2 .kept .0
 
 returns-3 : tie.Need-returns-3
 returns-3 c =
@@ -150,7 +147,7 @@ returns-3 c =
     let r = ran .run-branch .result in
     attempt-done (bytes at) (statementOf (bytes at)) (section at) (start at .args .n) (start at .pre .0) (at .search .result .branch) (at .search .result .at) (at .search .ensures) (some-branch (copy ran))
     (r .outcome) (r .n) (r .vars) (ran .run-branch .last .0) (left-is ran) (back .before .before .before .if2 .left) _
-    (c .before .before .copy-part2 .ensures
+    (c .before .before .copy-rows2 .ensures
     ∙ copied-in (section at) (ran .run-branch .last .0) (start at .args .n) (r .n) (back .larger .result) (start at .pre .0) (after back) (back .larger .ensures .0) (back .larger .ensures .1))
 
 pub attempt-spec : {M : Type 1} → statement M
@@ -161,16 +158,14 @@ attempt-spec =
     no-vars-requires
     same-length
     returns
-    slice-aggregate-copy-part
-    mul-copy-part
-    copy-part-requires
+    slice-aggregate-copy-rows
+    copy-rows-requires
     slice-aggregate-run-branch
     run-branch-requires
     same-length-2
     returns-2
-    slice-aggregate-copy-part-2
+    slice-aggregate-copy-rows-2
     larger-requires
-    mul-copy-part-2
-    copy-part-requires-2
+    copy-rows-requires-2
     same-length-3
     returns-3)

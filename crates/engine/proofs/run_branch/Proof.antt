@@ -6,14 +6,15 @@ use native.Mathlib.Omega.{arith}
 use mathlib.Core.List.{List}
 use lib.ListN.{length, getD}
 use denote.Ref.{now}
+use Rattle.basis.specs.Sizes.{countWidth}
 use Rattle.model.specs.Statement.{operations}
 use Rattle.model.specs.Matching.{unbound}
 use Rattle.model.specs.Execution.{performAll}
 use Rattle.tuples.specs.Section.{tuplesOf}
-use Rattle.engine.specs.Variables.{bindingsOf}
-use Rattle.engine.specs.Codes.{leaves-as}
+use Rattle.bindings.specs.Variables.{bindingsOf}
+use Rattle.operations.specs.Codes.{leaves-as}
 use Rattle.engine.specs.Ahead.{operationsAt, Ahead}
-use Rattle.engine.specs.Searching.{branchAt}
+use Rattle.guards.specs.Searching.{branchAt}
 use Rattle.engine.specs.Attempting.{branch-long, branch-can, branch-fails, branch-goes}
 use Rattle.engine.proofs.run_branch.Statement.{statement}
 use Rattle.engine.proofs.run_branch.Tie as tie
@@ -36,13 +37,13 @@ module _ (c : tie.After-w) where
   abbrev reading : tie.After-read-operation
   reading = call .before .before .before .before
 
-  goes : (Ahead (bytes reading) (reading .read-operation .result .end + 1) (getD (bytes reading) (reading .read-operation .result .end) 0) (bindingsOf (call .perform .result .vars)))
+  goes : (Ahead (bytes reading) (reading .read-operation .result .end + countWidth) (getD (bytes reading) (reading .read-operation .result .end) 0) (bindingsOf (call .perform .result .vars)))
       × (performAll (operations (branchAt (bytes reading) (start reading .args .at))) unbound (tuplesOf (now (start reading .args .tuples)) (start reading .args .n))
-      ≡ performAll (operationsAt (bytes reading) (reading .read-operation .result .end + 1) (getD (bytes reading) (reading .read-operation .result .end) 0)) (bindingsOf (call .perform .result .vars)) (tuplesOf (call .perform .last .0) (call .perform .result .n)))
+      ≡ performAll (operationsAt (bytes reading) (reading .read-operation .result .end + countWidth) (getD (bytes reading) (reading .read-operation .result .end) 0)) (bindingsOf (call .perform .result .vars)) (tuplesOf (call .perform .last .0) (call .perform .result .n)))
   goes =
       branch-goes (bytes reading) (start reading .args .at) (branchAt (bytes reading) (start reading .args .at)) (start reading .pre .1) (reading .read-operation .result) (reading .read-operation .ensures)
       (call .before .no-vars .result) (call .before .no-vars .ensures) (tuplesOf (now (start reading .args .tuples)) (start reading .args .n)) (call .perform .result .outcome) (call .perform .result .n) (call .perform .result .vars) _
-      (call .perform .ensures) (c .before .if1 .left) (start reading .pre .0 .legal)
+      (call .perform .ensures) (c .before .if1 .left) (start reading .pre .0 .lawful)
 
 read-operation-requires : tie.Need-read-operation-requires
 read-operation-requires c κs = search needs
@@ -82,7 +83,7 @@ run-operations-requires c κs =
     let w = c .before .before .before in
     let r = reading w in (
       (call w) .perform .ensures .section (w .before .if1 .left),
-      subst (λ (k : ℕ). Ahead (bytes r) (r .read-operation .result .end + 1) k (bindingsOf ((call w) .perform .result .vars))) (sym (c .size .ensures .0)) (goes w .0),
+      subst (λ (k : ℕ). Ahead (bytes r) (r .read-operation .result .end + countWidth) k (bindingsOf ((call w) .perform .result .vars))) (sym (c .size .ensures .0)) (goes w .0),
     )
 
 same-length-2 : tie.Need-same-length-2
@@ -94,7 +95,7 @@ returns-2 c =
     let w = run .before .before .before .before in
     let r = reading w in
     let d = (call w) .perform in
-    let same = goes w .1 ∙ ap (λ (k : ℕ). performAll (operationsAt (bytes r) (r .read-operation .result .end + 1) k) (bindingsOf (d .result .vars)) (tuplesOf (d .last .0) (d .result .n))) (sym (run .before .size .ensures .0)) in
+    let same = goes w .1 ∙ ap (λ (k : ℕ). performAll (operationsAt (bytes r) (r .read-operation .result .end + countWidth) k) (bindingsOf (d .result .vars)) (tuplesOf (d .last .0) (d .result .n))) (sym (run .before .size .ensures .0)) in
     leaves-as _ _ (run .run-operations .result .outcome) (run .run-operations .result .n) (run .run-operations .result .vars) _ (sym same) (run .run-operations .ensures)
 
 pub run-branch-spec : {M : Type 1} → statement M

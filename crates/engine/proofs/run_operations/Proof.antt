@@ -9,8 +9,8 @@ use denote.Ref.{now}
 use Rattle.model.specs.Execution.{Result, performAll}
 use Rattle.statements.specs.Flat.{operationIs}
 use Rattle.tuples.specs.Section.{tuplesOf}
-use Rattle.engine.specs.Variables.{bindingsOf}
-use Rattle.engine.specs.Codes.{CanPerform}
+use Rattle.bindings.specs.Variables.{bindingsOf}
+use Rattle.operations.specs.Codes.{CanPerform}
 use Rattle.engine.specs.Ahead.{operationsAt, Running, running-can, running-fails, running-turn, running-end}
 use Rattle.engine.proofs.run_operations.Statement.{statement}
 use Rattle.engine.proofs.run_operations.Tie as tie

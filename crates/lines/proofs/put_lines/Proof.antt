@@ -5,7 +5,7 @@ use Prim.Native.Nat.{_+_, _*_, _-_, _≤_}
 use native.Mathlib.Omega.{arith}
 use lib.ListN.{length, drop}
 use Rattle.model.specs.Run.{Reply}
-use Rattle.lines.specs.Written.{growth, spanAt, sizeAt, lineIn, Given}
+use Rattle.text.specs.Written.{growth, spanAt, sizeAt, lineIn, Given}
 use Rattle.lines.specs.LoopLaws.{size-span, put-rest, rest-more, Passed, passed-none, passed-more, passed-all}
 use borrow.Author.Needs.{needs}
 use Rattle.lines.proofs.put_lines.Statement.{statement}

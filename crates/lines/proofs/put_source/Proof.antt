@@ -1,6 +1,7 @@
 -- `lines::put_source` meets its contract. Assumes nothing.
 use native.Mathlib.Omega.{arith}
-use Rattle.lines.specs.WrittenLaws.{number-few, next-few, source-put}
+use Rattle.digits.specs.PutLaws.{number-few, next-few}
+use Rattle.lines.specs.WrittenLaws.{source-put}
 use borrow.Author.Needs.{needs}
 use Rattle.lines.proofs.put_source.Statement.{statement}
 use Rattle.lines.proofs.put_source.Tie as tie

@@ -3,7 +3,8 @@ use mathlib.Core.Path.{_≡_, _∙_}
 use Prim.Native.Nat.{_+_, _*_, _-_, _≤_}
 use native.Mathlib.Omega.{arith}
 use lib.ListN.{length, drop}
-use Rattle.lines.specs.Written.{valuesIn, valueRoom, Put}
+use Rattle.text.specs.Written.{valuesIn, valueRoom}
+use Rattle.digits.specs.Put.{Put}
 use Rattle.lines.specs.WrittenLaws.{values-none, values-next, values-all}
 use borrow.Author.Needs.{needs}
 use Rattle.lines.proofs.put_values.Statement.{statement}

@@ -4,9 +4,10 @@ use Prim.Native.Nat.{_+_, _≤_}
 use native.Mathlib.Omega.{arith}
 use lib.ListN.{length, set, length-set}
 use lib.Seq.{length-take-le}
-use Rattle.lines.specs.Lines.{codes, newline, refusedLine}
-use Rattle.lines.specs.Written.{Put}
-use Rattle.lines.specs.WrittenLaws.{number-few, refused-put}
+use Rattle.text.specs.Lines.{codes, newline, refusedLine}
+use Rattle.digits.specs.Put.{Put}
+use Rattle.digits.specs.PutLaws.{number-few}
+use Rattle.lines.specs.WrittenLaws.{refused-put}
 use Rattle.lines.specs.LoopLaws.{put-take, put-rest}
 use borrow.Author.Needs.{needs}
 use Rattle.lines.proofs.refused.Statement.{statement}

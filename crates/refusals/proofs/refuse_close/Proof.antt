@@ -1,6 +1,7 @@
 -- `refusals::refuse_close` meets its contract. Assumes nothing.
 use mathlib.Core.Path.{ap, _∙_}
-use Rattle.refusals.specs.Refusal.{refusal, stops, goes, close-checks}
+use Rattle.order.specs.Refusal.{refusal}
+use Rattle.order.specs.RefusalLaws.{stops, goes, close-checks}
 use borrow.Author.Needs.{needs}
 use Rattle.refusals.proofs.refuse_close.Statement.{statement}
 use Rattle.refusals.proofs.refuse_close.Tie as tie

@@ -1,42 +1,90 @@
 -- `refusals::refuse_named` meets its contract. Assumes nothing.
-use mathlib.Core.Path.{sym, _∙_}
-use mathlib.Core.List.{[]}
-use denote.Ref.{now}
-use Rattle.model.specs.Statement.{spacesNamed}
-use Rattle.model.specs.Step.{access}
+use mathlib.Core.Path.{_≡_}
+use native.Mathlib.Omega.{arith}
+use borrow.Author.Tests.{not-true, not-false}
 use Rattle.layout.specs.States.{decode}
-use Rattle.layout.specs.Stored.{statementOf}
-use Rattle.refusals.specs.Refusal.{refusal-none, not-open, denied, allowed}
+use Rattle.header.specs.RowLaws.{stored-length}
+use Rattle.spaces.specs.Spaces.{spacesOf, IsListed, Rising}
+use Rattle.lent.specs.Sections.{spacesLent, spaces-read, is-listed, is-rising}
+use Rattle.refusals.specs.Naming.{let-in, found-closed, found-denied}
 use borrow.Author.Needs.{needs}
 use Rattle.refusals.proofs.refuse_named.Statement.{statement}
 use Rattle.refusals.proofs.refuse_named.Tie as tie
 
-names-closed-requires : tie.Need-names-closed-requires
-names-closed-requires c κs = search needs
+-- the count of the spaces is read
+module _ (c : tie.After-space-count) where
+  abbrev start : tie.Start
+  start = c .before .before .before
+
+  listed : IsListed (spacesLent (start .args .state .now)) (c .space-count .result)
+  listed = is-listed (start .args .state .now) (c .space-count .result) (start .pre .0) (c .space-count .ensures .0)
+
+  rising : Rising (spacesOf (spacesLent (start .args .state .now)) (c .space-count .result))
+  rising = is-rising (start .args .state .now) (c .space-count .result) (start .pre .0) (c .space-count .ensures .0)
+
+  same : spacesOf (spacesLent (start .args .state .now)) (c .space-count .result) ≡ (decode (start .args .state .now)) .spaces
+  same = spaces-read (start .args .state .now) (c .space-count .result) (start .pre .0) (c .space-count .ensures .0)
+
+space-count-requires : tie.Need-space-count-requires
+space-count-requires c κs = omega (arith, stored-length _ _ (c .before .before .pre .0))
+
+sub-some-named : tie.Need-sub-some-named
+sub-some-named c = search needs
+
+part-some-named-start : tie.Need-part-some-named-start
+part-some-named-start c = search needs
+
+part-some-named-end : tie.Need-part-some-named-end
+part-some-named-end c = omega (arith, stored-length _ _ (start c .pre .0))
+
+some-named-requires : tie.Need-some-named-requires
+some-named-requires c κs = let count = c .before in (start count .pre .1, listed count, rising count)
 
 returns : tie.Need-returns
-unfolding access
 returns c =
-    let s = c .before .before .before .before in
-    not-open (decode (now (s .args .state))) (s .args .process) (spacesNamed (statementOf (now (s .args .body)))) [] (sym (c .before .names-closed .ensures) ∙ c .if1 .taken)
+    let shut = c .before in
+    let count = shut .before .before in
+    let-in (decode (start count .args .state .now)) _ _ _ (same count) _ (shut .some-named .ensures) (not-true _ (c .if1 .taken))
 
-names-denied-requires : tie.Need-names-denied-requires
-names-denied-requires c κs = search needs
+sub-some-named-2 : tie.Need-sub-some-named-2
+sub-some-named-2 c = search needs
+
+part-some-named-start-2 : tie.Need-part-some-named-start-2
+part-some-named-start-2 c = search needs
+
+part-some-named-end-2 : tie.Need-part-some-named-end-2
+part-some-named-end-2 c = omega (arith, stored-length _ _ (start (c .before .before .before) .pre .0))
+
+some-named-requires-2 : tie.Need-some-named-requires-2
+some-named-requires-2 c κs = let count = c .before .before .before .before in (start count .pre .1, listed count, rising count)
 
 returns-2 : tie.Need-returns-2
-unfolding access
 returns-2 c =
-    let k = c .before .before in
-    let s = k .before .before .before .before in
-    denied (decode (now (s .args .state))) (s .args .process) (spacesNamed (statementOf (now (s .args .body)))) [] (sym (k .before .names-closed .ensures) ∙ k .if1 .left) (sym (c .before .names-denied .ensures) ∙ c .if2 .taken)
+    let closed = c .before in
+    let count = closed .before .before .before .before .before in
+    found-closed (decode (start count .args .state .now)) _ _ _ (same count) _ (closed .some-named2 .ensures) (c .if2 .taken)
 
 returns-3 : tie.Need-returns-3
-unfolding access
 returns-3 c =
-    let k = c .before .before in
-    let s = k .before .before .before .before in
-    refusal-none ∙ allowed (decode (now (s .args .state))) (s .args .process) (spacesNamed (statementOf (now (s .args .body)))) [] (sym (k .before .names-closed .ensures) ∙ k .if1 .left) (sym (c .before .names-denied .ensures) ∙ c .if2 .left)
+    let closed = c .before in
+    let not-shut = closed .before .before in
+    let shut = not-shut .before in
+    let count = shut .before .before in
+    found-denied (decode (start count .args .state .now)) _ _ _ (same count) _ _ (shut .some-named .ensures) (not-false _ (not-shut .if1 .left)) (closed .some-named2 .ensures) (c .if2 .left)
 
 pub refuse-named-spec : {M : Type 1} → statement M
 refuse-named-spec =
-    tie.close (tie.spec names-closed-requires returns names-denied-requires returns-2 returns-3)
+    tie.close
+    (tie.spec
+    space-count-requires
+    sub-some-named
+    part-some-named-start
+    part-some-named-end
+    some-named-requires
+    returns
+    sub-some-named-2
+    part-some-named-start-2
+    part-some-named-end-2
+    some-named-requires-2
+    returns-2
+    returns-3)

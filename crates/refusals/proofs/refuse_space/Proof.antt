@@ -1,7 +1,7 @@
 -- `refusals::refuse_space` meets its contract. Assumes nothing.
 use mathlib.Core.Path.{sym, _∙_}
 use borrow.Author.Tests.{not-true, not-false}
-use Rattle.refusals.specs.Refusal.{close-closed, close-denied, close-used, close-unused}
+use Rattle.order.specs.RefusalLaws.{close-closed, close-denied, close-used, close-unused}
 use borrow.Author.Needs.{needs}
 use Rattle.refusals.proofs.refuse_space.Statement.{statement}
 use Rattle.refusals.proofs.refuse_space.Tie as tie

@@ -2,7 +2,8 @@
 use native.Mathlib.Omega.{arith}
 use denote.Ref.{now}
 use Rattle.layout.specs.States.{decode}
-use Rattle.refusals.specs.Names.{body-head, body-host-small, statement-stops, statement-goes}
+use Rattle.names.specs.Head.{body-head, body-host-small}
+use Rattle.refusals.specs.Naming.{statement-stops, statement-goes}
 use borrow.Author.Needs.{needs}
 use Rattle.refusals.proofs.refuse_statement.Statement.{statement}
 use Rattle.refusals.proofs.refuse_statement.Tie as tie

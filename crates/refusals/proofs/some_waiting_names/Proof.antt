@@ -1,53 +1,61 @@
 -- `refusals::some_waiting_names` meets its contract. Assumes nothing.
-use mathlib.Core.Path.{sym, _∙_}
-use Prim.Native.Nat.{_-_}
+use Prim.Native.Nat.{_-_, _<_}
 use native.Mathlib.Omega.{arith}
-use denote.Ref.{now}
-use Rattle.refusals.specs.Places.{stored-length}
-use Rattle.refusals.specs.Queue.{Passing, passing-start, passing-on, passing-yes, passing-end}
-use Rattle.refusals.specs.Names.{naming}
+use mathlib.Core.Path.{sym, _∙_}
+use lib.ListN.{length}
+use Rattle.sections.specs.Shapes.{items-length}
+use Rattle.queue.specs.Queue.{waitingShape, waitingOf}
+use Rattle.queue.specs.PlaceLaws.{noWaiting}
+use Rattle.refusals.specs.Naming.{naming, Passing, passing-start, passing-on, passing-yes, passing-end}
 use borrow.Author.Needs.{needs}
 use Rattle.refusals.proofs.some_waiting_names.Statement.{statement}
 use Rattle.refusals.proofs.some_waiting_names.Tie as tie
 
 abbrev Inv-loop : tie.InvT-loop
-Inv-loop state table n i₀ i = Passing (naming table) state n i
+Inv-loop waiting n spaces m space i₀ i = Passing (naming space) (waitingOf waiting n) i
 
 abbrev μ-loop : tie.MeasureT-loop
-μ-loop state table n i₀ i = n - i
+μ-loop waiting n spaces m space i₀ i = n - i
 
-shared-slice-read-size : tie.Need-shared-slice-read-size Inv-loop μ-loop
-shared-slice-read-size c = let s = c .before .before .before in omega (arith, stored-length (now (s .args .state)) (s .pre))
+-- a turn: the waiting statement at index i
+module _ (c : tie.In-loop Inv-loop μ-loop) where
+  abbrev at : tie.At-loop Inv-loop μ-loop
+  at = c .before
 
-size-requires : tie.Need-size-requires Inv-loop μ-loop
-size-requires c κs = search needs
+  abbrev start : tie.Start Inv-loop μ-loop
+  start = at .before .before .before
+
+  below : at .loop .i < length (waitingOf (start .args .waiting .now) (start .args .n))
+  below = omega (arith, c .loop-test .taken, items-length waitingShape (start .args .waiting .now) (start .args .n))
 
 loop-holds : tie.Need-loop-holds Inv-loop μ-loop
-loop-holds c = let s = c .before .before .before .before in passing-start (naming (now (s .args .table))) (now (s .args .state)) (c .size .result) (s .pre) (c .size .ensures .0)
+loop-holds c = passing-start _ _
 
 waiting-names-requires : tie.Need-waiting-names-requires Inv-loop μ-loop
-waiting-names-requires c κs = search needs
+waiting-names-requires c κs = let p = start c .pre in (p .0, c .loop-test .taken, p .1, p .2)
 
 returns : tie.Need-returns Inv-loop μ-loop
-returns c = let l = c .before .before .before in
-    let s = l .before .before .before .before .before in
-    passing-yes (naming (now (s .args .table))) (now (s .args .state)) (l .before .size .result) (l .loop .i) (l .loop .inv) (c .before .before .loop-test .taken) (sym (c .before .waiting-names .ensures) ∙ c .if1 .taken)
+returns c =
+    let tried = c .before in
+    let turn = tried .before in
+    passing-yes _ _ noWaiting _ (at turn .loop .inv) (below turn) (sym (tried .waiting-names .ensures) ∙ c .if1 .taken)
 
 add-i : tie.Need-add-i Inv-loop μ-loop
 add-i c = search needs
 
 loop-less : tie.Need-loop-less Inv-loop μ-loop
-loop-less c = search needs
+loop-less c = omega arith
 
 loop-again : tie.Need-loop-again Inv-loop μ-loop
-loop-again c = let l = c .before .before .before in
-    let s = l .before .before .before .before .before in
-    passing-on (naming (now (s .args .table))) (now (s .args .state)) (l .before .size .result) (l .loop .i) (l .loop .inv) (c .before .before .loop-test .taken) (sym (c .before .waiting-names .ensures) ∙ c .if1 .left)
+loop-again c =
+    let tried = c .before in
+    let turn = tried .before in
+    passing-on _ _ noWaiting _ (at turn .loop .inv) (below turn) (sym (tried .waiting-names .ensures) ∙ c .if1 .left)
 
 returns-2 : tie.Need-returns-2 Inv-loop μ-loop
-returns-2 c = let l = c .before in
-    let s = l .before .before .before .before .before in
-    passing-end (naming (now (s .args .table))) (now (s .args .state)) (l .before .size .result) (l .loop .i) (l .loop .inv) (c .loop-test .left)
+returns-2 c =
+    let s = c .before .before .before .before in
+    passing-end _ _ noWaiting _ (c .before .loop .inv) (omega (arith, c .loop-test .left, items-length waitingShape (s .args .waiting .now) (s .args .n)))
 
 pub some-waiting-names-spec : {M : Type 1} → statement M
 some-waiting-names-spec =
@@ -55,8 +63,6 @@ some-waiting-names-spec =
     (tie.spec
     Inv-loop
     μ-loop
-    shared-slice-read-size
-    size-requires
     loop-holds
     waiting-names-requires
     returns

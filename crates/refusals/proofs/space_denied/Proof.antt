@@ -1,40 +1,45 @@
 -- `refusals::space_denied` meets its contract. Assumes nothing.
-use mathlib.Core.Path.{refl, _∙_}
-use mathlib.Core.Bool.{true}
-use denote.Ref.{now}
-use Rattle.basis.specs.Lists.{zeros}
-use Rattle.layout.specs.States.{decode}
-use Rattle.refusals.specs.Marks.{foundIn, marked-yes, denied-found}
+use mathlib.Core.Path.{ap, _∙_}
+use native.Mathlib.Omega.{arith}
+use mathlib.Core.List.{List}
+use Rattle.model.specs.Run.{Space, isDenied}
+use Rattle.header.specs.RowLaws.{stored-length}
+use Rattle.lent.specs.Sections.{spaces-read, is-listed, is-rising}
 use borrow.Author.Needs.{needs}
 use Rattle.refusals.proofs.space_denied.Statement.{statement}
 use Rattle.refusals.proofs.space_denied.Tie as tie
 
-slice-aggregate-mark-spaces : tie.Need-slice-aggregate-mark-spaces
-slice-aggregate-mark-spaces c = search needs
+space-count-requires : tie.Need-space-count-requires
+space-count-requires c κs = omega (arith, stored-length _ _ (c .before .pre))
 
-mark-spaces-requires : tie.Need-mark-spaces-requires
-unfolding zeros
-mark-spaces-requires c κs = (c .before .before .pre .0, refl)
+sub-is-denied : tie.Need-sub-is-denied
+sub-is-denied c = search needs
 
-slice-aggregate-is-marked : tie.Need-slice-aggregate-is-marked
-slice-aggregate-is-marked c = search needs
+part-is-denied-start : tie.Need-part-is-denied-start
+part-is-denied-start c = search needs
 
-is-marked-requires : tie.Need-is-marked-requires
-is-marked-requires c κs = search needs
+part-is-denied-end : tie.Need-part-is-denied-end
+part-is-denied-end c = omega (arith, stored-length _ _ (c .before .before .pre))
+
+is-denied-requires : tie.Need-is-denied-requires
+is-denied-requires c κs =
+    let count = c .before in
+    let s = count .before .before in
+    (is-listed _ _ (s .pre) (count .space-count .ensures .0), is-rising _ _ (s .pre) (count .space-count .ensures .0))
 
 returns : tie.Need-returns
 returns c =
-    let m = c .before .before .before in
-    let s = m .before .before .before in
-    let ss = decode (now (s .args .state)) .spaces in
-    c .is-marked .ensures ∙ marked-yes (foundIn (s .args .process) true ss) _ (m .mark-spaces .ensures) (s .args .space) (s .pre .1) ∙ denied-found (s .args .process) ss (s .args .space)
+    let count = c .before .before in
+    let s = count .before .before in
+    c .is-denied .ensures ∙ ap (λ (ss : List Space). isDenied ss (s .args .process) (s .args .space)) (spaces-read _ _ (s .pre) (count .space-count .ensures .0))
 
 pub space-denied-spec : {M : Type 1} → statement M
 space-denied-spec =
     tie.close
     (tie.spec
-    slice-aggregate-mark-spaces
-    mark-spaces-requires
-    slice-aggregate-is-marked
-    is-marked-requires
+    space-count-requires
+    sub-is-denied
+    part-is-denied-start
+    part-is-denied-end
+    is-denied-requires
     returns)

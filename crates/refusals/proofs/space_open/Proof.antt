@@ -1,40 +1,45 @@
 -- `refusals::space_open` meets its contract. Assumes nothing.
-use mathlib.Core.Path.{refl, _∙_}
-use mathlib.Core.Bool.{false}
-use denote.Ref.{now}
-use Rattle.basis.specs.Lists.{zeros}
-use Rattle.layout.specs.States.{decode}
-use Rattle.refusals.specs.Marks.{foundIn, marked-yes, open-found}
+use mathlib.Core.Path.{ap, _∙_}
+use native.Mathlib.Omega.{arith}
+use mathlib.Core.List.{List}
+use Rattle.model.specs.Run.{Space, isOpen}
+use Rattle.header.specs.RowLaws.{stored-length}
+use Rattle.lent.specs.Sections.{spaces-read, is-listed, is-rising}
 use borrow.Author.Needs.{needs}
 use Rattle.refusals.proofs.space_open.Statement.{statement}
 use Rattle.refusals.proofs.space_open.Tie as tie
 
-slice-aggregate-mark-spaces : tie.Need-slice-aggregate-mark-spaces
-slice-aggregate-mark-spaces c = search needs
+space-count-requires : tie.Need-space-count-requires
+space-count-requires c κs = omega (arith, stored-length _ _ (c .before .pre))
 
-mark-spaces-requires : tie.Need-mark-spaces-requires
-unfolding zeros
-mark-spaces-requires c κs = (c .before .before .pre .0, refl)
+sub-is-open : tie.Need-sub-is-open
+sub-is-open c = search needs
 
-slice-aggregate-is-marked : tie.Need-slice-aggregate-is-marked
-slice-aggregate-is-marked c = search needs
+part-is-open-start : tie.Need-part-is-open-start
+part-is-open-start c = search needs
 
-is-marked-requires : tie.Need-is-marked-requires
-is-marked-requires c κs = search needs
+part-is-open-end : tie.Need-part-is-open-end
+part-is-open-end c = omega (arith, stored-length _ _ (c .before .before .pre))
+
+is-open-requires : tie.Need-is-open-requires
+is-open-requires c κs =
+    let count = c .before in
+    let s = count .before .before in
+    (is-listed _ _ (s .pre) (count .space-count .ensures .0), is-rising _ _ (s .pre) (count .space-count .ensures .0))
 
 returns : tie.Need-returns
 returns c =
-    let m = c .before .before .before in
-    let s = m .before .before .before in
-    let ss = decode (now (s .args .state)) .spaces in
-    c .is-marked .ensures ∙ marked-yes (foundIn 0 false ss) _ (m .mark-spaces .ensures) (s .args .space) (s .pre .1) ∙ open-found 0 ss (s .args .space)
+    let count = c .before .before in
+    let s = count .before .before in
+    c .is-open .ensures ∙ ap (λ (ss : List Space). isOpen ss (s .args .space)) (spaces-read _ _ (s .pre) (count .space-count .ensures .0))
 
 pub space-open-spec : {M : Type 1} → statement M
 space-open-spec =
     tie.close
     (tie.spec
-    slice-aggregate-mark-spaces
-    mark-spaces-requires
-    slice-aggregate-is-marked
-    is-marked-requires
+    space-count-requires
+    sub-is-open
+    part-is-open-start
+    part-is-open-end
+    is-open-requires
     returns)

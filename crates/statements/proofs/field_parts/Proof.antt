@@ -1,10 +1,12 @@
 -- `statements::field_parts` meets its contract. Assumes nothing.
 use mathlib.Core.Path.{_≡_, refl, ap}
+use Prim.Native.Nat.{_+_}
 use native.Mathlib.Omega.{arith}
 use denote.Ref.{now}
 use lib.ListN.{getD}
 use borrow.Author.Needs.{needs}
-use Rattle.statements.specs.Fields.{widthOf, width-sum, width-two}
+use Rattle.basis.specs.Sizes.{formWidth, kindWidth, variableWidth, valueSize}
+use Rattle.statements.specs.Fields.{sumSize, widthOf, width-sum, width-more}
 use Rattle.statements.specs.Flat.{fieldIs}
 use Rattle.statements.specs.FlatLaws.{parts-actual, parts-formal, parts-reference, parts-sum, parts-anonymous}
 use Rattle.statements.proofs.field_parts.Statement.{statement}
@@ -17,7 +19,7 @@ add-from : tie.Need-add-from
 add-from c = search needs
 
 shared-slice-read-first : tie.Need-shared-slice-read-first
-shared-slice-read-first c = let s = c .before .before .before in omega (arith, s .pre .1, width-two (getD (now (s .args .b)) (s .args .at) 0) (s .pre .0))
+shared-slice-read-first c = let s = c .before .before .before in omega (arith, s .pre .1, width-more (getD (now (s .args .b)) (s .args .at) 0) (s .pre .0))
 
 add-word4 : tie.Need-add-word4
 add-word4 c = search needs
@@ -26,7 +28,7 @@ word4-requires : tie.Need-word4-requires
 unfolding widthOf
 word4-requires c κs = let s = c .before .before .before .before in
     let b = now (s .args .b) in
-    let w : widthOf (getD b (s .args .at) 0) ≡ 6 = ap widthOf (c .match .keys1) in
+    let w : widthOf (getD b (s .args .at) 0) ≡ formWidth + valueSize = ap widthOf (c .match .keys1) in
     omega (arith, w, s .pre .1)
 
 add-t12 : tie.Need-add-t12
@@ -36,7 +38,7 @@ shared-slice-read-t14 : tie.Need-shared-slice-read-t14
 unfolding widthOf
 shared-slice-read-t14 c = let s = c .before .before .before .before .before in
     let b = now (s .args .b) in
-    let w : widthOf (getD b (s .args .at) 0) ≡ 3 = ap widthOf (c .before .match .keys2) in
+    let w : widthOf (getD b (s .args .at) 0) ≡ formWidth + kindWidth + variableWidth = ap widthOf (c .before .match .keys2) in
     omega (arith, w, s .pre .1)
 
 add-t16 : tie.Need-add-t16
@@ -45,7 +47,7 @@ add-t16 c = search needs
 shared-slice-read-t18 : tie.Need-shared-slice-read-t18
 shared-slice-read-t18 c = let s = c .before .before .before .before .before .before in
     let b = now (s .args .b) in
-    let w : widthOf (getD b (s .args .at) 0) ≡ 7 = let r = c .before .before .match .rest in width-sum (getD b (s .args .at) 0) (omega (arith, r .0 .0 .1, r .0 .1, r .1)) (c .before .if1 .taken) in
+    let w : widthOf (getD b (s .args .at) 0) ≡ formWidth + sumSize = let r = c .before .before .match .rest in width-sum (getD b (s .args .at) 0) (omega (arith, r .0 .0 .1, r .0 .1, r .1)) (c .before .if1 .taken) in
     omega (arith, w, s .pre .1)
 
 add-word4-2 : tie.Need-add-word4-2
@@ -54,7 +56,7 @@ add-word4-2 c = search needs
 word4-requires-2 : tie.Need-word4-requires-2
 word4-requires-2 c κs = let s = c .before .before .before .before .before .before in
     let b = now (s .args .b) in
-    let w : widthOf (getD b (s .args .at) 0) ≡ 7 = let r = c .before .before .match .rest in width-sum (getD b (s .args .at) 0) (omega (arith, r .0 .0 .1, r .0 .1, r .1)) (c .before .if1 .taken) in
+    let w : widthOf (getD b (s .args .at) 0) ≡ formWidth + sumSize = let r = c .before .before .match .rest in width-sum (getD b (s .args .at) 0) (omega (arith, r .0 .0 .1, r .0 .1, r .1)) (c .before .if1 .taken) in
     omega (arith, w, s .pre .1)
 
 returns : tie.Need-returns

@@ -3,6 +3,7 @@ use mathlib.Core.Path.{refl}
 use Prim.Native.Nat.{_-_}
 use denote.Ref.{now}
 use borrow.Author.Needs.{needs}
+use Rattle.basis.specs.Sizes.{mostFields}
 use Rattle.statements.specs.Flat.{hasForm}
 use Rattle.statements.specs.Several.{all-replicate, Underway, fields-start, fields-turn, fields-stop, fields-done}
 use Rattle.statements.proofs.read_fields.Statement.{statement}
@@ -18,7 +19,7 @@ no-field-requires : tie.Need-no-field-requires Inv-loop μ-loop
 no-field-requires c κs = search needs
 
 loop-holds : tie.Need-loop-holds Inv-loop μ-loop
-loop-holds c = let s = c .before .before in fields-start _ _ _ _ (s .pre .1) (s .pre .2) refl (all-replicate hasForm 6 _ (c .no-field .ensures))
+loop-holds c = let s = c .before .before in fields-start _ _ _ _ (s .pre .1) (s .pre .2) refl (all-replicate hasForm mostFields _ (c .no-field .ensures))
 
 read-field-requires : tie.Need-read-field-requires Inv-loop μ-loop
 read-field-requires c κs = search needs

@@ -1,11 +1,10 @@
 -- `statements::read_on_spaces` meets its contract. Assumes nothing.
-use mathlib.Core.Path.{sym, ap}
-use Prim.Native.Nat.{_+_}
+use mathlib.Core.Path.{sym}
 use native.Mathlib.Omega.{arith}
 use denote.Ref.{now}
 use borrow.Author.Needs.{needs}
 use Rattle.statements.specs.Flat.{reads-as, fewFields, operationOf}
-use Rattle.statements.specs.At.{passed, passed-none}
+use Rattle.statements.specs.At.{passed-none}
 use Rattle.statements.specs.Operations.{spaces-short, spaces-there}
 use Rattle.statements.proofs.read_on_spaces.Statement.{statement}
 use Rattle.statements.proofs.read_on_spaces.Tie as tie
@@ -20,30 +19,29 @@ returns : tie.Need-returns
 returns c = let s = c .before .before .before in
     reads-as _ _ _ (c .no-operation-read .ensures) (sym (passed-none fewFields _ (spaces-short (operationOf (s .args .code)) (now (s .args .b)) (s .args .at) (omega (arith, s .pre .1, c .before .if1 .taken)))))
 
+space-number-requires : tie.Need-space-number-requires
+space-number-requires c κs = search needs
+
+add-space-number : tie.Need-add-space-number
+add-space-number c = search needs
+
+space-number-requires-2 : tie.Need-space-number-requires-2
+space-number-requires-2 c κs = search needs
+
 add-read-counted : tie.Need-add-read-counted
 add-read-counted c = search needs
-
-shared-slice-read-read-counted : tie.Need-shared-slice-read-read-counted
-shared-slice-read-read-counted c = search needs
-
-cast-read-counted : tie.Need-cast-read-counted
-cast-read-counted c = omega (arith, c .shared-slice-known2 .given (c .before .before .before .args .at))
-
-add-read-counted-2 : tie.Need-add-read-counted-2
-add-read-counted-2 c = search needs
-
-shared-slice-read-read-counted-2 : tie.Need-shared-slice-read-read-counted-2
-shared-slice-read-read-counted-2 c = search needs
-
-cast-read-counted-2 : tie.Need-cast-read-counted-2
-cast-read-counted-2 c = omega (arith, c .shared-slice-known3 .given (c .before .before .before .before .args .at + 1))
 
 read-counted-requires : tie.Need-read-counted-requires
 read-counted-requires c κs = search needs
 
 returns-2 : tie.Need-returns-2
-returns-2 c = let s = c .before .before .before .before .before in
-    reads-as _ _ _ (c .read-counted .ensures) (sym (ap (passed fewFields) (spaces-there (operationOf (s .args .code)) (now (s .args .b)) (s .args .at) (omega (arith, s .pre .1, c .before .before .before .if1 .left)))))
+returns-2 c =
+    let m = c .before in
+    let n = m .before in
+    let k = n .before in
+    let s = k .before .before in
+    reads-as _ _ _ (c .read-counted .ensures)
+    (spaces-there (s .args .code) (n .space-number .result) (m .space-number2 .result) (now (s .args .b)) (s .args .at) (omega (arith, s .pre .1, k .if1 .left)) (n .space-number .ensures) (m .space-number2 .ensures))
 
 pub read-on-spaces-spec : {M : Type 1} → statement M
 read-on-spaces-spec =
@@ -52,11 +50,9 @@ read-on-spaces-spec =
     sub-if1
     no-operation-read-requires
     returns
+    space-number-requires
+    add-space-number
+    space-number-requires-2
     add-read-counted
-    shared-slice-read-read-counted
-    cast-read-counted
-    add-read-counted-2
-    shared-slice-read-read-counted-2
-    cast-read-counted-2
     read-counted-requires
     returns-2)

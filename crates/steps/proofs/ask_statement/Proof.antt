@@ -1,11 +1,12 @@
 -- `steps::ask_statement` meets its contract. Assumes nothing.
 use mathlib.Core.Path.{sym, _∙_}
+use mathlib.Core.Option.{none, some}
 use borrow.Author.Tests.{not-true, not-false}
 use Rattle.basis.specs.Logic.{true-is}
 use Rattle.layout.specs.States.{decode}
 use Rattle.model.specs.Step.{AG, guarded}
 use Rattle.layout.specs.Stored.{statementOf}
-use Rattle.steps.specs.RequestLaws.{asked-none, asked-some, statement-yes, statement-no}
+use Rattle.steps.specs.HandleLaws.{asked-as, statement-yes, statement-no}
 use borrow.Author.Needs.{needs}
 use Rattle.steps.proofs.ask_statement.Statement.{statement}
 use Rattle.steps.proofs.ask_statement.Tie as tie
@@ -27,7 +28,7 @@ returns c =
     let a = c .before .before .before .before .before .before .before .before .before .before .args in
     let h = c .before .before .before .before .before .before .body-ok in
     let d = c .before .before .malformed in
-    asked-none AG (a .body .now) (decode (a .state .now)) (a .out .now) (a .state .now) (d .last .1 .0) (d .result) (statement-no (a .body .now) (h .result) (h .ensures) (not-true _ (c .before .before .before .before .before .if1 .taken))) (d .ensures)
+    asked-as AG (a .body .now) (decode (a .state .now)) none (a .out .now) (a .state .now) (d .last .1 .0) (d .result) (sym (statement-no (a .body .now) (h .result) (h .ensures) (not-true _ (c .before .before .before .before .before .if1 .taken)))) (d .ensures)
 
 handle-statement-requires : tie.Need-handle-statement-requires
 handle-statement-requires c κs = let s = c .before .before .before .before .before .before .before in (s .pre .0, true-is _ (sym (c .before .before .before .body-ok .ensures) ∙ not-false _ (c .before .before .if1 .left)), s .pre .1, s .pre .2)
@@ -43,7 +44,7 @@ returns-2 c =
     let a = c .before .before .before .before .before .before .before .before .before .before .before .before .args in
     let h = c .before .before .before .before .before .before .before .before .body-ok in
     let d = c .before .before .before .before .handle-statement in
-    asked-some AG (a .body .now) (decode (a .state .now)) (guarded (statementOf (a .body .now))) (a .out .now) (d .last .0) (d .last .1 .1 .0) (d .result) (statement-yes (a .body .now) (h .result) (h .ensures) (not-false _ (c .before .before .before .before .before .before .before .if1 .left))) (d .ensures)
+    asked-as AG (a .body .now) (decode (a .state .now)) (some (guarded (statementOf (a .body .now)))) (a .out .now) (d .last .0) (d .last .1 .1 .0) (d .result) (sym (statement-yes (a .body .now) (h .result) (h .ensures) (not-false _ (c .before .before .before .before .before .before .before .if1 .left)))) (d .ensures)
 
 pub ask-statement-spec : {M : Type 1} → statement M
 ask-statement-spec =

@@ -3,7 +3,8 @@ use native.Mathlib.Omega.{arith}
 use Rattle.layout.specs.States.{decode}
 use Rattle.model.specs.Step.{guarded, askingHost, askingProcess}
 use Rattle.layout.specs.Stored.{statementOf}
-use Rattle.steps.specs.HandleLaws.{none-refuses, settle-may, handled-refused, handled-done}
+use Rattle.handling.specs.AnswerLaws.{none-refuses, handled-refused}
+use Rattle.steps.specs.HandleLaws.{settle-may, handled-done}
 use borrow.Author.Needs.{needs}
 use Rattle.steps.proofs.handle_statement.Statement.{statement}
 use Rattle.steps.proofs.handle_statement.Tie as tie
@@ -50,12 +51,16 @@ same-length-4 c = search needs
 
 returns-2 : tie.Need-returns-2
 returns-2 c =
-    let s = c .before .before .before .before .before .before .before .before .before .before .before .before .before .before .before .before .before .before .before .before in
+    let settled = c .before .before .before .before in
+    let ran = settled .before .before .before .before .before .before .before in
+    let test = ran .before .before .before in
+    let s = test .before .before .before .before .before .before in
     let a = s .args in
-    let k = c .before .before .before .before .before .before .before .before .before .before .before .before .before .before .before .refuse-statement in
-    let d = c .before .before .before .before .before .before .before .before .before .before .before .run-statement in
-    let f = c .before .before .before .before .settle in
-    handled-done (decode (a .state .now)) (guarded (statementOf (a .body .now))) (k .result) (a .out .now) (d .last .1 .1 .0) (f .last .1 .0) (d .last .0) (f .last .0) (d .result) (f .result) (k .ensures) (c .before .before .before .before .before .before .before .before .before .before .before .before .before .before .if1 .left) (d .ensures .0) (f .ensures)
+    let k = test .before .refuse-statement in
+    let d = ran .run-statement in
+    let f = settled .settle in
+    let z = none-refuses (decode (a .state .now)) (guarded (statementOf (a .body .now))) (k .result) (k .ensures) (test .if1 .left) in
+    handled-done (decode (a .state .now)) (guarded (statementOf (a .body .now))) (a .out .now) (d .last .1 .1 .0) (f .last .1 .0) (d .last .0) (f .last .0) (d .result) (f .result) z (d .ensures .0) (f .ensures)
 
 pub handle-statement-spec : {M : Type 1} → statement M
 handle-statement-spec =

@@ -1,7 +1,7 @@
 -- `steps::refuse_body` meets its contract. Assumes nothing.
 use native.Mathlib.Omega.{arith}
 use Rattle.layout.specs.States.{decode}
-use Rattle.refusals.specs.Names.{body-head}
+use Rattle.names.specs.Head.{body-head}
 use Rattle.steps.specs.HandleLaws.{refused-body}
 use borrow.Author.Needs.{needs}
 use Rattle.steps.proofs.refuse_body.Statement.{statement}

@@ -8,7 +8,8 @@ use borrow.Rule.Slice.PartMut.{same-len-mid}
 use Rattle.layout.specs.States.{decode}
 use Rattle.basis.specs.Sizes.{mostReply}
 use Rattle.layout.specs.Stored.{IsStored}
-use Rattle.records.specs.StoredLaws.{said, stored-length}
+use Rattle.header.specs.StoredLaws.{said}
+use Rattle.header.specs.RowLaws.{stored-length}
 use Rattle.wakes.specs.Settling.{Midway, midway-start, rest-lent, turn-shorter, turn-more, turn-end}
 use Rattle.wakes.proofs.settle.Statement.{statement}
 use Rattle.wakes.proofs.settle.Tie as tie

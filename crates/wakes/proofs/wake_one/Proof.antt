@@ -1,73 +1,137 @@
 -- `wakes::wake_one` meets its contract. Assumes nothing.
+use Prim.Native.Nat.{ℕ}
 use native.Mathlib.Omega.{arith}
+use mathlib.Core.Path.{_≡_}
+use mathlib.Core.List.{List}
 use borrow.Author.Needs.{needs}
-use Rattle.records.specs.StoredLaws.{stored-length}
-use Rattle.wakes.specs.Turns.{wakes-none, wakes-at, wakes-some}
+use Rattle.layout.specs.States.{decode}
+use Rattle.header.specs.RowLaws.{stored-length}
+use Rattle.sections.specs.Shapes.{holds-length}
+use Rattle.tuples.specs.Section.{tupleShape, tuplesOf, Section}
+use Rattle.queue.specs.Queue.{waitingOf}
+use Rattle.lent.specs.Sections.{queueLent, queue-read, is-queued}
+use Rattle.state.specs.Lent.{tuplesLent, tuples-read, is-section}
+use Rattle.wakes.specs.Turns.{WokenAt, wakes-none, wakes-at, wakes-some}
 use Rattle.wakes.proofs.wake_one.Statement.{statement}
 use Rattle.wakes.proofs.wake_one.Tie as tie
 
--- the oldest is sought, and the queue's length read
-module _ (c : tie.After-size) where
-  abbrev old : tie.After-oldest-ready
-  old = c .before .before
+-- both counts are read
+module _ (c : tie.After-tuple-count) where
+  abbrev waits : tie.After-waiting-count
+  waits = c .before .before
 
   abbrev start : tie.Start
-  start = old .before .before .before .before
+  start = waits .before .before .before .before
+
+  abbrev bytes : List ℕ
+  bytes = start .args .state .now
+
+  queue-is : waitingOf (queueLent bytes) (waits .waiting-count .result) ≡ (decode bytes) .waiting
+  queue-is = queue-read bytes (waits .waiting-count .result) (start .pre .0) (waits .waiting-count .ensures .0)
+
+  tuples-are : tuplesOf (tuplesLent bytes) (c .tuple-count .result) ≡ (decode bytes) .tuples
+  tuples-are = tuples-read bytes (c .tuple-count .result) (start .pre .0) (c .tuple-count .ensures .0)
+
+  section : Section (tuplesLent bytes) (c .tuple-count .result)
+  section = is-section bytes (c .tuple-count .result) (start .pre .0) (c .tuple-count .ensures .0)
+
+-- the oldest is found
+module _ (c : tie.After-i) where
+  abbrev asked : tie.After-oldest-ready
+  asked = c .before .before
+
+  abbrev counted : tie.After-tuple-count
+  counted = asked .before .before .before .before
+
+  abbrev index : ℕ
+  index = c .i .given .0 .0
+
+  runs : WokenAt (decode (bytes counted)) index
+  runs = wakes-at (bytes counted) _ _ (asked .oldest-ready .result) (start counted .pre .0) (tuples-are counted) (queue-is counted) (asked .oldest-ready .ensures) index (c .i .given .1)
+
+waiting-count-requires : tie.Need-waiting-count-requires
+waiting-count-requires c κs = omega (arith, stored-length _ _ (c .before .before .before .pre .0))
+
+tuple-count-requires : tie.Need-tuple-count-requires
+tuple-count-requires c κs = omega (arith, stored-length _ _ (c .before .before .before .before .before .pre .0))
+
+sub-oldest-ready : tie.Need-sub-oldest-ready
+sub-oldest-ready c = omega arith
+
+part-oldest-ready-start : tie.Need-part-oldest-ready-start
+part-oldest-ready-start c = omega arith
+
+part-oldest-ready-end : tie.Need-part-oldest-ready-end
+part-oldest-ready-end c = omega (arith, stored-length _ _ (start (c .before) .pre .0))
+
+sub-oldest-ready-2 : tie.Need-sub-oldest-ready-2
+sub-oldest-ready-2 c = omega arith
+
+part-oldest-ready-start-2 : tie.Need-part-oldest-ready-start-2
+part-oldest-ready-start-2 c = omega arith
+
+part-oldest-ready-end-2 : tie.Need-part-oldest-ready-end-2
+part-oldest-ready-end-2 c = omega (arith, stored-length _ _ (start (c .before .before) .pre .0))
 
 oldest-ready-requires : tie.Need-oldest-ready-requires
-oldest-ready-requires c κs = search needs
+oldest-ready-requires c κs =
+    let k = c .before .before .before in
+    let t = section k in
+    (is-queued (bytes k) (waits k .waiting-count .result) (start k .pre .0) (waits k .waiting-count .ensures .0), holds-length tupleShape _ _ _ t, t .few)
 
-slice-read-size : tie.Need-slice-read-size
-slice-read-size c = omega (arith, stored-length _ _ (c .before .before .before .before .before .pre .0))
+enum-known-i : tie.Need-enum-known-i
+enum-known-i c = search needs
 
-size-requires : tie.Need-size-requires
-size-requires c κs = search needs
+wake-at-requires : tie.Need-wake-at-requires
+wake-at-requires c κs =
+    let found = c .before .before .before in
+    let s = start (counted found) in
+    (s .pre .0, runs found .below, omega (arith, runs found .below, s .pre .1))
+
+enum-told : tie.Need-enum-told
+enum-told c = search needs
 
 same-length : tie.Need-same-length
 same-length c = search needs
 
-returns : tie.Need-returns
-returns c =
-    let k = c .before in
-    let s = start k in
-    let o = old k .oldest-ready in
-    (wakes-none (s .args .state .now) (o .result) (k .size .result) (s .pre .0) (o .ensures) (k .size .ensures .0) (s .args .out .now) (c .if1 .taken), omega arith)
-
-wake-at-requires : tie.Need-wake-at-requires
-wake-at-requires c κs =
-    let other = c .before .before in
-    let k = other .before in
-    let s = start k in
-    let o = old k .oldest-ready in
-    let w = wakes-at (s .args .state .now) (o .result) (k .size .result) (s .pre .0) (o .ensures) (k .size .ensures .0) (other .if1 .left) in
-    (s .pre .0, w .below, omega (arith, w .below, s .pre .1))
-
 same-length-2 : tie.Need-same-length-2
 same-length-2 c = search needs
+
+returns : tie.Need-returns
+returns c =
+    let woke = c .before .before .before .before in
+    let found = woke .before .before .before .before in
+    let k = counted found in
+    let w = woke .wake-at in
+    (wakes-some (bytes k) _ _ (asked found .oldest-ready .result) (start k .pre .0) (tuples-are k) (queue-is k) (asked found .oldest-ready .ensures) (index found) (start k .args .out .now) (w .last .0) (w .last .1 .1 .0) (w .result) (found .i .given .1) (w .ensures .0), w .ensures .1)
 
 same-length-3 : tie.Need-same-length-3
 same-length-3 c = search needs
 
 returns-2 : tie.Need-returns-2
 returns-2 c =
-    let did = c .before .before .before .before in
-    let other = did .before .before .before in
-    let k = other .before in
-    let s = start k in
-    let o = old k .oldest-ready in
-    let w = did .wake-at in
-    (wakes-some (s .args .state .now) (o .result) (k .size .result) (s .pre .0) (o .ensures) (k .size .ensures .0) (s .args .out .now) (w .last .0) (w .last .1 .1 .0) (w .result) (other .if1 .left) (w .ensures .0), w .ensures .1)
+    let ready = c .before .before in
+    let k = ready .before .before .before .before in
+    (wakes-none (bytes k) _ _ (ready .oldest-ready .result) (start k .pre .0) (tuples-are k) (queue-is k) (ready .oldest-ready .ensures) (start k .args .out .now) (c .enum-told .given .1), omega arith)
 
 pub wake-one-spec : {M : Type 1} → statement M
 wake-one-spec =
     tie.close
     (tie.spec
+    waiting-count-requires
+    tuple-count-requires
+    sub-oldest-ready
+    part-oldest-ready-start
+    part-oldest-ready-end
+    sub-oldest-ready-2
+    part-oldest-ready-start-2
+    part-oldest-ready-end-2
     oldest-ready-requires
-    slice-read-size
-    size-requires
-    same-length
-    returns
+    enum-known-i
     wake-at-requires
+    enum-told
+    same-length
     same-length-2
+    returns
     same-length-3
     returns-2)

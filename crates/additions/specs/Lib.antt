@@ -1,0 +1,2 @@
+pub mod AdditionLaws
+pub mod WriterCases

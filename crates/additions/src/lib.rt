@@ -1,0 +1,96 @@
+// The three calls of the writer: a body begun on a lent buffer, then one operation or one branch more each time.
+ghost use mathlib.Core.Path.{_≡_};
+ghost use Rattle.basis.specs.Choice.{isSome};
+ghost use Rattle.writer.specs.Writer.{held, writtenIs, beginOn, addOperation, addBranch};
+use answers::settle;
+use bodies::body_ok;
+use composer::compose_begun;
+use composer::compose_branch;
+use composer::compose_operation;
+use statements::Operation;
+use words::CODE_WIDTH;
+use words::COUNT_WIDTH;
+use words::FORM_WIDTH;
+use words::MOST_BODY;
+use words::MOST_FIELDS;
+use words::SPACE_WIDTH;
+use words::VALUE;
+use words::VARIABLE_WIDTH;
+use writer::Added;
+use writer::MALFORMED;
+use writer::has_bytes;
+
+// The most bytes of a field (form, variable, kind, value) and of an operation (code, two spaces, field count, fields), and
+// room for a body, an operation more and the count that follows a guard.
+const FIELD: usize = FORM_WIDTH + VARIABLE_WIDTH + VALUE;
+
+const OPERATION: usize = CODE_WIDTH + SPACE_WIDTH + SPACE_WIDTH + COUNT_WIDTH + MOST_FIELDS * FIELD;
+
+const ROOM: usize = MOST_BODY + OPERATION + COUNT_WIDTH;
+
+// Whether the filled bytes are a legal body.
+fn holds_body(buffer: &[u8], fill: usize) -> bool
+    ensures { λ r. ⌜ r ≡ isSome (held (now (buffer .entry)) fill) ⌝ }
+{
+    if buffer.len() < fill {
+        return false;
+    }
+    body_ok(&buffer[..fill])
+}
+
+// A body is begun at the front of the buffer: host, process and first guard.
+pub fn begin_at(buffer: &mut [u8], host: u8, process: u16, guard: Operation) -> Added
+    ensures { λ r. ⌜ writtenIs r (now (buffer .exit)) ≡ beginOn (now (buffer .entry)) host process guard ⌝ }
+{
+    if !has_bytes(guard) {
+        return Added {
+            answer: MALFORMED,
+            fill: 0,
+        };
+    }
+    let mut t = [0u8; ROOM];
+    let n = compose_begun(&mut t, host, process, guard);
+    settle(buffer, 0, &t[..n])
+}
+
+// One operation more, at the end of the last branch of the body that the filled bytes are.
+pub fn operation_at(buffer: &mut [u8], fill: usize, operation: Operation) -> Added
+    ensures { λ r. ⌜ writtenIs r (now (buffer .exit)) ≡ addOperation (now (buffer .entry)) fill operation ⌝ }
+{
+    if !holds_body(buffer, fill) {
+        return Added {
+            answer: MALFORMED,
+            fill,
+        };
+    }
+    if !has_bytes(operation) {
+        return Added {
+            answer: MALFORMED,
+            fill,
+        };
+    }
+    let mut t = [0u8; ROOM];
+    let n = compose_operation(&mut t, buffer, fill, operation);
+    settle(buffer, fill, &t[..n])
+}
+
+// One branch more, with this guard and no operation yet, after those of the body that the filled bytes are.
+pub fn branch_at(buffer: &mut [u8], fill: usize, guard: Operation) -> Added
+    ensures { λ r. ⌜ writtenIs r (now (buffer .exit)) ≡ addBranch (now (buffer .entry)) fill guard ⌝ }
+{
+    if !holds_body(buffer, fill) {
+        return Added {
+            answer: MALFORMED,
+            fill,
+        };
+    }
+    if !has_bytes(guard) {
+        return Added {
+            answer: MALFORMED,
+            fill,
+        };
+    }
+    let mut t = [0u8; ROOM];
+    let n = compose_branch(&mut t, buffer, fill, guard);
+    settle(buffer, fill, &t[..n])
+}

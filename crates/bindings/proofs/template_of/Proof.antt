@@ -1,0 +1,91 @@
+-- `bindings::template_of` meets its contract. Assumes nothing.
+use borrow.Author.Needs.{needs}
+use mathlib.Core.Path.{_≡_, refl, sym}
+use Prim.Native.Nat.{_≤_, _<_, _-_}
+use native.Mathlib.Omega.{arith}
+use lib.ListN.{length, take}
+use Rattle.basis.specs.Sizes.{mostFields}
+use Rattle.statements.specs.Flat.{fieldsAre}
+use Rattle.bindings.specs.Variables.{bindingsOf}
+use Rattle.bindings.specs.Templates.{AskFrom, ask-turn, asks-for}
+use Rattle.bindings.specs.Fields.{fieldsIn, length-mapped, fields-length}
+use Rattle.bindings.proofs.template_of.Statement.{statement}
+use Rattle.bindings.proofs.template_of.Tie as tie
+
+abbrev Inv-loop : tie.InvT-loop
+Inv-loop v op kinds₀ given₀ bits₀ n i₀ kinds given bits i =
+    (i ≤ n) × AskFrom (bindingsOf v) (fieldsAre (take i (op .fields))) kinds given bits 0 × (length kinds ≡ mostFields) × (length given ≡ mostFields) × (length bits ≡ mostFields)
+
+abbrev μ-loop : tie.MeasureT-loop
+μ-loop v op kinds₀ given₀ bits₀ n i₀ kinds given bits i = n - i
+
+loop-holds : tie.Need-loop-holds Inv-loop μ-loop
+unfolding fieldsAre
+loop-holds c = (search needs, tt, refl, refl, refl)
+
+mul-asked : tie.Need-mul-asked Inv-loop μ-loop
+mul-asked c = search needs
+
+element-copy-out-asked : tie.Need-element-copy-out-asked Inv-loop μ-loop
+element-copy-out-asked c = search needs
+
+asked-requires : tie.Need-asked-requires Inv-loop μ-loop
+asked-requires c κs = search needs
+
+array-write-kinds : tie.Need-array-write-kinds Inv-loop μ-loop
+array-write-kinds c = search needs
+
+array-write-given : tie.Need-array-write-given Inv-loop μ-loop
+array-write-given c = search needs
+
+mul-bits : tie.Need-mul-bits Inv-loop μ-loop
+mul-bits c = search needs
+
+array-write-bits : tie.Need-array-write-bits Inv-loop μ-loop
+array-write-bits c = search needs
+
+add-i : tie.Need-add-i Inv-loop μ-loop
+add-i c = search needs
+
+loop-less : tie.Need-loop-less Inv-loop μ-loop
+loop-less c = search needs
+
+loop-again : tie.Need-loop-again Inv-loop μ-loop
+loop-again c =
+    let start = c .before .before .before .before in
+    let at = c .before .before .before .loop in
+    let six : length (start .args .t1 .fields) ≡ mostFields = search (needs, length-mapped) in
+    let few : at .i < mostFields = search needs in (
+      search needs,
+      ask-turn (bindingsOf (start .args .v)) (start .args .t1 .fields) _ (at .kinds) (at .given) (at .bits) (at .i) (c .asked .result .kind) (c .asked .result .given) (c .asked .result .bits)
+          (omega arith) (omega arith) (omega arith) (omega arith) (at .inv .1) (c .asked .ensures),
+      search needs,
+      search needs,
+      search needs,
+    )
+
+returns : tie.Need-returns Inv-loop μ-loop
+returns c =
+    let start = c .before .before in
+    let end : c .before .loop .i ≡ start .args .t1 .count = omega (arith, c .before .loop .inv .0, c .loop-test .left) in
+    let six : length (start .args .t1 .fields) ≡ mostFields = search (needs, length-mapped) in
+    asks-for (bindingsOf (start .args .v)) (fieldsIn (start .args .t1)) _ (sym (fields-length (start .args .t1 .fields) (start .args .t1 .count) (omega (arith, start .pre)))) (rw end at (c .before .loop .inv .1)) (start .pre)
+
+pub template-of-spec : {M : Type 1} → statement M
+template-of-spec =
+    tie.close
+    (tie.spec
+    Inv-loop
+    μ-loop
+    loop-holds
+    mul-asked
+    element-copy-out-asked
+    asked-requires
+    array-write-kinds
+    array-write-given
+    mul-bits
+    array-write-bits
+    add-i
+    loop-less
+    loop-again
+    returns)

@@ -1,0 +1,77 @@
+-- What a template binds at a tuple's values, field by field. Assumes nothing.
+use mathlib.Core.Path.{_≡_, refl, sym, _∙_}
+use Prim.Native.Nat.{ℕ, zero, suc, _+_, _-_, _*_, _≤_, _<_}
+use native.Mathlib.Omega.{arith}
+use mathlib.Core.Bool.{true}
+use mathlib.Core.Option.{some}
+use mathlib.Core.List.{List, [], _∷_}
+use lib.ListN.{length, take, drop, getD, set}
+use lib.Seq.{set-out}
+use Rattle.basis.specs.Sizes.{variables, mostFields, valueSize}
+use Rattle.model.specs.Value.{Value, value}
+use Rattle.model.specs.Statement as Model
+use Rattle.model.specs.Matching.{Bindings, bindField, bind}
+use Rattle.statements.specs.declared.Field.{Field}
+use Rattle.statements.specs.Flat.{fieldOf, fieldIs, fieldsAre}
+use Rattle.tuples.specs.Section.{tupleAt}
+use Rattle.tuples.specs.Entry.{valueAt, valuesAt, valuesPlace, valueIn}
+use Rattle.tuples.specs.PlaceLaws.{values-of}
+use Rattle.bindings.specs.Fields.{fields-drop, fields-past}
+use Rattle.bindings.specs.declared.Vars.{Vars}
+use Rattle.bindings.specs.Variables.{bindings, bindingsOf, bindings-set, bindings-length, Sixteen}
+
+-- ---- one field
+
+module _ (v : Vars) (f : Field) (u : Value) where
+  -- form 1
+  pub binds : (y : ℕ) → f .form ≡ 1 → y ≡ f .variable
+      → bindings (set (v .bound) y true) (set (v .kinds) y (u .kind)) (set (v .bits) y (u .bits)) ≡ bindField (bindingsOf v) (fieldIs f) u
+  unfolding fieldIs fieldOf bindField
+  binds y e q = rw (e, ← q) (bindings-set (v .bound) (v .kinds) (v .bits) y (u .kind) (u .bits))
+
+  -- no such variable
+  pub binds-past : (y : ℕ) → Sixteen v → f .form ≡ 1 → y ≡ f .variable → variables ≤ y → bindingsOf v ≡ bindField (bindingsOf v) (fieldIs f) u
+  unfolding fieldIs fieldOf bindField
+  binds-past y n e q h =
+      let l : length (bindingsOf v) ≡ variables = bindings-length (v .bound) (v .kinds) (v .bits) (n .0 ∙ sym (n .1)) (n .0 ∙ sym (n .2)) ∙ n .0 in
+      let past : length (bindingsOf v) ≤ y = omega arith in
+      rw (e, ← q) (sym (set-out (bindingsOf v) y (some u) past))
+
+  -- the other forms
+  pub binds-not : (f .form ≡ 1 → ⊥) → bindingsOf v ≡ bindField (bindingsOf v) (fieldIs f) u
+  unfolding fieldIs fieldOf bindField
+  binds-not a = go (f .form) refl a
+    where
+      go : (n : ℕ) → f .form ≡ n → (n ≡ 1 → ⊥) → bindingsOf v ≡ bindField (bindingsOf v) (fieldIs f) u
+      go zero e a = rw e
+      go (suc zero) e a = absurd (a refl)
+      go (suc (suc zero)) e a = rw e
+      go (suc (suc (suc zero))) e a = rw e
+      go (suc (suc (suc (suc zero)))) e a = rw e
+      go (suc (suc (suc (suc (suc n))))) e a = rw e
+
+-- ---- all of them
+
+-- before the first: the values of the tuple
+pub bind-first : (bs : Bindings) (fs : List Model.Field) (p : List ℕ) (i n : ℕ) → length ((tupleAt p i) .values) ≡ n → n ≤ mostFields
+    → bind bs fs ((tupleAt p i) .values) ≡ bind bs (drop 0 fs) (valuesAt p (valuesPlace i + 0 * valueSize) (n - 0))
+bind-first bs fs p i n e h =
+    let a : valuesPlace i + 0 ≡ valuesPlace i = omega arith in
+    let b : n - 0 ≡ n = omega arith in
+    rw (a, b, values-of p i n e h)
+
+-- one field bound, the rest to bind
+pub bind-turn : (bs bs′ : Bindings) (l : List Field) (d : Field) (p : List ℕ) (i n j kind bits : ℕ) → j < n → n ≤ length l
+    → kind ≡ (valueIn p i j) .kind → bits ≡ (valueIn p i j) .bits → bs′ ≡ bindField bs (fieldIs (getD l j d)) (value kind bits)
+    → bind bs (drop j (fieldsAre (take n l))) (valuesAt p (valuesPlace i + j * valueSize) (n - j))
+    ≡ bind bs′ (drop (j + 1) (fieldsAre (take n l))) (valuesAt p (valuesPlace i + (j + 1) * valueSize) (n - (j + 1)))
+unfolding bind valuesAt valueAt
+bind-turn bs bs′ l d p i n j kind bits h k e q b =
+    let s : n - j ≡ suc (n - (j + 1)) = omega arith in
+    let t : valuesPlace i + j * valueSize + valueSize ≡ valuesPlace i + (j + 1) * valueSize = omega arith in
+    rw (fields-drop l n j d h k, s, ← t, b, e, q)
+
+-- after the last
+pub bind-last : (bs : Bindings) (l : List Field) (p : List ℕ) (at n : ℕ) → n ≤ length l → bind bs (drop n (fieldsAre (take n l))) (valuesAt p at (n - n)) ≡ bs
+unfolding bind
+bind-last bs l p at n h = rw (fields-past l n h)

@@ -1,0 +1,4 @@
+pub mod BodyLaws
+pub mod BranchLaws
+pub mod Branching
+pub mod Walking

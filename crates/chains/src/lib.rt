@@ -1,0 +1,1 @@
+// The writer's calls one after the other: definitions and laws alone.

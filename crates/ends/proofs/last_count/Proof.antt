@@ -1,0 +1,69 @@
+-- `ends::last_count` meets its contract. Assumes nothing.
+use mathlib.Core.Path.{_≡_}
+use mathlib.Core.Option.{some}
+use Prim.Native.Nat.{_-_}
+use native.Mathlib.Omega.{arith}
+use denote.Ref.{now}
+use borrow.Author.Needs.{needs}
+use Rattle.model.specs.Statement.{Statement}
+use Rattle.model.specs.Legal.{parse}
+use Rattle.ends.specs.LastCount.{Reached, body-long, reached-start, reached-turn, reached-last, bytes-below}
+use Rattle.ends.proofs.last_count.Statement.{statement}
+use Rattle.ends.proofs.last_count.Tie as tie
+
+abbrev Inv-loop : tie.InvT-loop
+Inv-loop b count at₀ i₀ at i = (st : Statement) → parse b ≡ some st → Reached b count st at i
+
+abbrev μ-loop : tie.MeasureT-loop
+μ-loop b count at₀ i₀ at i = count - i
+
+shared-slice-read-size : tie.Need-shared-slice-read-size Inv-loop μ-loop
+shared-slice-read-size c = let s = c .before .before in omega (arith, body-long (now (s .args .b)) (s .pre))
+
+size-requires : tie.Need-size-requires Inv-loop μ-loop
+size-requires c κs = search needs
+
+loop-holds : tie.Need-loop-holds Inv-loop μ-loop
+loop-holds c st e = let s = c .before .before .before in reached-start (now (s .args .b)) st (c .size .result) e (c .size .ensures .0)
+
+branch-end-requires : tie.Need-branch-end-requires Inv-loop μ-loop
+branch-end-requires c κs = search needs
+
+add-i : tie.Need-add-i Inv-loop μ-loop
+add-i c = search needs
+
+loop-less : tie.Need-loop-less Inv-loop μ-loop
+loop-less c = search needs
+
+loop-again : tie.Need-loop-again Inv-loop μ-loop
+loop-again c st e =
+    let l = c .before .before in
+    let n = l .before in
+    let s = n .before .before .before in
+    reached-turn (now (s .args .b)) (n .size .result) st (l .loop .at) (l .loop .i) (c .branch-end .result) (bytes-below (now (s .args .b)) (λ k. n .before .before .shared-slice-known .given k .fits)) (c .before .loop-test .taken) (l .loop .inv st e) (c .branch-end .ensures)
+
+read-operation-requires : tie.Need-read-operation-requires Inv-loop μ-loop
+read-operation-requires c κs = search needs
+
+returns : tie.Need-returns Inv-loop μ-loop
+returns c =
+    let l = c .before .before in
+    let n = l .before in
+    let s = n .before .before .before in
+    reached-last (now (s .args .b)) (n .size .result) (l .loop .at) (l .loop .i) (c .read-operation .result) (bytes-below (now (s .args .b)) (λ k. n .before .before .shared-slice-known .given k .fits)) (s .pre) (c .before .loop-test .left) (l .loop .inv) (c .read-operation .ensures .is)
+
+pub last-count-spec : {M : Type 1} → statement M
+last-count-spec =
+    tie.close
+    (tie.spec
+    Inv-loop
+    μ-loop
+    shared-slice-read-size
+    size-requires
+    loop-holds
+    branch-end-requires
+    add-i
+    loop-less
+    loop-again
+    read-operation-requires
+    returns)

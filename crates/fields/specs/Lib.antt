@@ -1,0 +1,4 @@
+pub mod FieldLaws
+pub mod Forms
+pub mod Kinds
+pub mod Stepped

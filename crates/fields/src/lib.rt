@@ -1,0 +1,130 @@
+// Whether a field is legal in an operation, after the kinds that are bound.
+ghost use mathlib.Core.Path.{_≡_};
+ghost use Prim.Native.Nat.{_<_};
+ghost use Rattle.statements.specs.Flat.{fieldIs};
+ghost use mathlib.Core.Bool.{not, _&&_};
+ghost use lib.Dec.{ltb};
+ghost use Rattle.basis.specs.Choice.{isSome};
+ghost use Rattle.basis.specs.Sizes.{variables};
+ghost use Rattle.model.specs.Value.{value, isKind};
+ghost use Rattle.model.specs.Legal.{kindIn, summable, legalField, bindKind};
+ghost use Rattle.fields.specs.Kinds.{kinds, kindIs, kindsAre, boundIs};
+ghost use Rattle.fields.specs.Forms.{allows};
+ghost use Rattle.fields.specs.Stepped.{stepped};
+use statements::Field;
+use statements::OUT;
+use values::legal_value;
+use words::VARIABLES;
+use words::size;
+
+// The kind byte of a name; kinds are below 3.
+const NAME: u8 = 1;
+
+const KINDS: u8 = 3;
+
+// Whether something is legal and, if so, the kinds of the variables bound after it: kind and one more, 0 where not bound.
+pub struct Bound {
+    pub ok: bool,
+    pub kinds: [u8; VARIABLES],
+}
+
+// The kind of a variable and one more, 0 where it is not bound.
+fn kind_at(kinds: [u8; VARIABLES], variable: u8) -> u8
+    ensures { λ r. ⌜ kindIs r ≡ kindIn (kindsAre kinds) variable ⌝ }
+{
+    let x = size(variable);
+    if VARIABLES <= x {
+        return 0;
+    }
+    kinds[x]
+}
+
+// "Forms 3 and 4 need the variable's kind to be theirs, and not name".
+fn sum_ok(bound: u8, kind: u8, bits: u32) -> bool
+    ensures { λ r. ⌜ r ≡ summable (kindIs bound) (value kind bits) ⌝ }
+{
+    if bound == 0 {
+        return false;
+    }
+    if bound - 1 != kind {
+        return false;
+    }
+    if kind == NAME {
+        return false;
+    }
+    legal_value(kind, bits)
+}
+
+// Form 1: a kind, and a variable that is not bound yet.
+fn formal_ok(kind: u8, variable: u8, now: [u8; VARIABLES]) -> bool
+    ensures { λ r. ⌜ r ≡ (isKind kind && ltb variable variables && not (isSome (kindIn (kindsAre now) variable))) ⌝ }
+{
+    if KINDS <= kind {
+        return false;
+    }
+    if VARIABLES <= size(variable) {
+        return false;
+    }
+    kind_at(now, variable) == 0
+}
+
+// A field after others: `earlier` has the kinds that earlier operations bound, `now` those bound so far.
+fn field_ok(f: Field, earlier: [u8; VARIABLES], now: [u8; VARIABLES]) -> bool
+    ensures { λ r. ⌜ r ≡ legalField (kindsAre earlier) (kindsAre now) (fieldIs f) ⌝ }
+{
+    let form = f.form;
+    match form {
+        0 => legal_value(f.kind, f.bits),
+        1 => formal_ok(f.kind, f.variable, now),
+        2 => kind_at(earlier, f.variable) != 0,
+        3 | 4 => sum_ok(kind_at(earlier, f.variable), f.kind, f.bits),
+        _ => f.kind < KINDS,
+    }
+}
+
+// "1 to 4 allow forms 0, 1, 2, 5; out 0, 2, 3, 4; move and copy 0, 2, 5".
+fn form_ok(code: u8, form: u8) -> bool
+    ensures { λ r. ⌜ r ≡ allows code form ⌝ }
+{
+    match form {
+        0 => true,
+        1 => code < OUT,
+        2 => true,
+        3 | 4 => code == OUT,
+        _ => code != OUT,
+    }
+}
+
+// The kinds with what a field binds.
+fn bind_kind(f: Field, now: [u8; VARIABLES]) -> [u8; VARIABLES]
+    requires { ⌜ (f .form ≡ 1 → (f .kind < kinds) × (f .variable < variables)) ⌝ }
+    ensures { λ r. ⌜ kindsAre r ≡ bindKind (kindsAre now) (fieldIs f) ⌝ }
+{
+    let mut kinds = now;
+    if f.form == 1 {
+        kinds[size(f.variable)] = f.kind + 1;
+    }
+    kinds
+}
+
+// One field of an operation of a code: its form is allowed, and it is legal after the fields before it.
+pub fn field_step(code: u8, f: Field, earlier: [u8; VARIABLES], now: [u8; VARIABLES]) -> Bound
+    ensures { λ r. ⌜ boundIs r ≡ stepped code (kindsAre earlier) (kindsAre now) (fieldIs f) (f .form) ⌝ }
+{
+    if !form_ok(code, f.form) {
+        return Bound {
+            ok: false,
+            kinds: now,
+        };
+    }
+    if !field_ok(f, earlier, now) {
+        return Bound {
+            ok: false,
+            kinds: now,
+        };
+    }
+    Bound {
+        ok: true,
+        kinds: bind_kind(f, now),
+    }
+}

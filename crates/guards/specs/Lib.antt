@@ -1,0 +1,3 @@
+pub mod Placed
+pub mod Branches
+pub mod Searching

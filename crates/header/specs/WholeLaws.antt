@@ -1,0 +1,158 @@
+-- When bytes are those of the run that they say: mark and unused bytes of the header are, and each section is. Assumes nothing.
+use mathlib.Core.Path.{_≡_, refl, sym, ap, _∙_}
+use Prim.Native.Nat.{ℕ, zero, suc, _+_, _-_, _*_, _^_, _≤_, _<_}
+use native.Mathlib.Omega.{arith}
+use native.Mathlib.Numerals.{add-one}
+use mathlib.Core.Bool.{Bool, true, false, _&&_}
+use mathlib.Core.List.{List, [], _∷_, _++_, map}
+use lib.ListN.{length, take, drop, getD}
+use lib.Seq.{take-all, take-take, drop-cons}
+use lib.Dec.{T, leb, leb→le}
+use lib.Pow.{areBytes}
+use borrow.Author.Tests.{le-leb, lt-leb}
+use Rattle.basis.specs.Logic.{and-l, and-r, both, true-is}
+use Rattle.basis.specs.Lists.{zeros, pieces, sameBytes}
+use Rattle.basis.specs.ListLaws.{same-refl, same→eq}
+use Rattle.basis.specs.Numbers.{bigEndian, numberAt, mask, bits}
+use Rattle.basis.specs.NumberLaws.{numberAt-lt}
+use Rattle.basis.specs.PadLaws.{mask-bits}
+use Rattle.basis.specs.Sizes.{markWidth, positionWidth, maskWidth, countWidth, nextWidth, tupleCountWidth, hosts, mostMonitors, spaceNumbers, mostSpaces, mostTuples, mostWaiting, lastAt, maskAt, monitorsAt, nextAt, spaceCountAt, tupleCountAt, waitingCountAt, headerUsed, headerSize, spaceSize, tupleSize, waitingSize, spacesSize, tuplesSize, waitingAllSize, spacesAt, tuplesAt, waitingAt, stateSize}
+use Rattle.model.specs.Run.{Run}
+use Rattle.model.specs.Valid.{countsFit}
+use Rattle.layout.specs.States.{stateMark, spaceBytes, tupleBytes, waitingBytes, area, encode, byteAt, spaceRead, tupleRead, waitingRead, entries, decode}
+use Rattle.words.specs.Over.{zerosAt}
+use Rattle.words.specs.OverLaws.{drop-take}
+use Rattle.words.specs.ZeroLaws.{zerosAt→zeros, zeros→zerosAt}
+use Rattle.sections.specs.Rows.{joined}
+use Rattle.sections.specs.RowLaws.{number-written}
+use Rattle.sections.specs.Shapes.{entries-length}
+use Rattle.sections.specs.Parts.{placeIn, part-read, cutFrom, total, cut-joined}
+use Rattle.header.specs.Rows.{widths, partsOf, Cut}
+use Rattle.header.specs.RowLaws.{encode-parts}
+use Rattle.header.specs.Whole.{headerLegal}
+
+-- ---- a section of a state, lent as a part
+
+pieces-cut : (n w m : ℕ) (l : List ℕ) → n * w ≤ m → pieces n w (take m l) ≡ pieces n w l
+unfolding pieces
+pieces-cut zero w m l h = refl
+pieces-cut (suc n) w m l h =
+    let e : w + (m - w) ≡ m = omega arith in
+    let f : take w (take m l) ≡ take w l = take-take w m l (omega arith) in
+    let d : drop w (take m l) ≡ take (m - w) (drop w l) = ap (λ (k : ℕ). drop w (take k l)) (sym e) ∙ drop-take w (m - w) l in
+    rw (f, d, pieces-cut n w (m - w) (drop w l) (omega arith))
+
+-- it says what the state says
+pub lent-says : {A : Type 0} (read : List ℕ → A) (n size whole at : ℕ) (b : List ℕ) → n * size ≤ whole → entries read n size 0 (take whole (drop at b)) ≡ entries read n size at b
+unfolding entries
+lent-says read n size whole at b h = ap (map read) (pieces-cut n size whole (drop at b) h)
+
+-- ---- the whole
+
+-- mark, unused bytes and sections are those of the run that the bytes say
+pub record Says (b : List ℕ) : Type 0 where
+  pub mark : stateMark ≡ take markWidth b
+  pub unused : zeros (headerSize - headerUsed) ≡ take (headerSize - headerUsed) (drop headerUsed b)
+  pub spaces : area spacesSize spaceSize spaceBytes ((decode b) .spaces) ≡ take spacesSize (drop spacesAt b)
+  pub tuples : area tuplesSize tupleSize tupleBytes ((decode b) .tuples) ≡ take tuplesSize (drop tuplesAt b)
+  pub waiting : area waitingAllSize waitingSize waitingBytes ((decode b) .waiting) ≡ take waitingAllSize (drop waitingAt b)
+
+one-written : (at : ℕ) (b : List ℕ) → at < length b → getD b at 0 ∷ [] ≡ take countWidth (drop at b)
+one-written at b h = rw (drop-cons b at 0 h)
+
+module _ (b : List ℕ) (long : length b ≡ stateSize) where
+  says-parts : T (areBytes b) → Says b → partsOf (decode b) ≡ cutFrom 0 widths b
+  unfolding partsOf decode byteAt cutFrom
+  says-parts bytes s =
+      let mark : stateMark ≡ take markWidth b = s .mark in
+      let last : bigEndian positionWidth (numberAt lastAt positionWidth b) ≡ take positionWidth (drop lastAt b) = number-written lastAt positionWidth b bytes (omega arith) in
+      let small : numberAt maskAt maskWidth b < 2 ^ hosts = numberAt-lt maskAt maskWidth b bytes in
+      let up : bigEndian maskWidth (mask (bits hosts (numberAt maskAt maskWidth b))) ≡ take maskWidth (drop maskAt b) = rw (mask-bits hosts (numberAt maskAt maskWidth b) small) (number-written maskAt maskWidth b bytes (omega arith)) in
+      let monitors : getD b monitorsAt 0 ∷ [] ≡ take countWidth (drop monitorsAt b) = one-written monitorsAt b (omega arith) in
+      let next : bigEndian nextWidth (numberAt nextAt nextWidth b) ≡ take nextWidth (drop nextAt b) = number-written nextAt nextWidth b bytes (omega arith) in
+      let spaces : length (entries spaceRead (getD b spaceCountAt 0) spaceSize spacesAt b) ∷ [] ≡ take countWidth (drop spaceCountAt b) =
+      rw (entries-length spaceRead (getD b spaceCountAt 0) spaceSize spacesAt b) (one-written spaceCountAt b (omega arith)) in
+      let tuples : bigEndian tupleCountWidth (length (entries tupleRead (numberAt tupleCountAt tupleCountWidth b) tupleSize tuplesAt b)) ≡ take tupleCountWidth (drop tupleCountAt b) =
+      rw (entries-length tupleRead (numberAt tupleCountAt tupleCountWidth b) tupleSize tuplesAt b) (number-written tupleCountAt tupleCountWidth b bytes (omega arith)) in
+      let waiting : length (entries waitingRead (getD b waitingCountAt 0) waitingSize waitingAt b) ∷ [] ≡ take countWidth (drop waitingCountAt b) =
+      rw (entries-length waitingRead (getD b waitingCountAt 0) waitingSize waitingAt b) (one-written waitingCountAt b (omega arith)) in
+      λ i. mark i ∷ last i ∷ up i ∷ monitors i ∷ next i ∷ spaces i ∷ tuples i ∷ waiting i ∷ s .unused i ∷ s .spaces i ∷ s .tuples i ∷ s .waiting i ∷ []
+
+  pub says-same : T (areBytes b) → Says b → encode (decode b) ≡ b
+  unfolding total
+  says-same bytes s = encode-parts (decode b) .bytes ∙ (ap joined (says-parts bytes s) ∙ (cut-joined 0 widths b ∙ take-all stateSize b (omega arith)))
+
+  pub same-says : encode (decode b) ≡ b → Says b
+  unfolding placeIn partsOf
+  same-says e =
+      let cut : Cut b (partsOf (decode b)) = rw e at (encode-parts (decode b)) in
+      record {
+        mark = sym (part-read widths b (partsOf (decode b)) cut 0 (omega arith));
+        unused = sym (part-read widths b (partsOf (decode b)) cut 8 (omega arith));
+        spaces = sym (part-read widths b (partsOf (decode b)) cut 9 (omega arith));
+        tuples = sym (part-read widths b (partsOf (decode b)) cut 10 (omega arith));
+        waiting = sym (part-read widths b (partsOf (decode b)) cut 11 (omega arith));
+      }
+
+-- ---- what the tests of the header show
+
+module _ (s : Run) (m : ℕ) (em : m ≡ s .monitors) where
+  pub no-monitors : mostMonitors < m → false ≡ countsFit s
+  unfolding countsFit
+  no-monitors h = rw (← em, lt-leb m mostMonitors h)
+
+  module _ (fm : m ≤ mostMonitors) (x : ℕ) (ex : x ≡ s .next) where
+    pub no-next : spaceNumbers < x → false ≡ countsFit s
+    unfolding countsFit
+    no-next h = rw (← em, ← ex, le-leb m mostMonitors fm, lt-leb x spaceNumbers h)
+
+    module _ (fx : x ≤ spaceNumbers) (n : ℕ) (en : n ≡ length (s .spaces)) where
+      pub no-spaces : mostSpaces < n → false ≡ countsFit s
+      unfolding countsFit
+      no-spaces h = rw (← em, ← ex, ← en, le-leb m mostMonitors fm, le-leb x spaceNumbers fx, lt-leb n mostSpaces h)
+
+      module _ (fn : n ≤ mostSpaces) (t : ℕ) (et : t ≡ length (s .tuples)) where
+        pub no-tuples : mostTuples < t → false ≡ countsFit s
+        unfolding countsFit
+        no-tuples h = rw (← em, ← ex, ← en, ← et, le-leb m mostMonitors fm, le-leb x spaceNumbers fx, le-leb n mostSpaces fn, lt-leb t mostTuples h)
+
+        pub then-waiting : t ≤ mostTuples → (w : ℕ) → w ≡ length (s .waiting) → leb w mostWaiting ≡ countsFit s
+        unfolding countsFit
+        then-waiting ft w ew = rw (← em, ← ex, ← en, ← et, ← ew, le-leb m mostMonitors fm, le-leb x spaceNumbers fx, le-leb n mostSpaces fn, le-leb t mostTuples ft)
+
+module _ (b : List ℕ) (r : Bool) (er : r ≡ sameBytes stateMark (take markWidth b)) where
+  pub no-mark : r ≡ false → false ≡ headerLegal b
+  unfolding headerLegal
+  no-mark z = rw (sym er ∙ z)
+
+  module _ (yes : r ≡ true) (z : Bool) (ez : z ≡ zerosAt b headerUsed (headerSize - headerUsed)) where
+    pub no-unused : z ≡ false → false ≡ headerLegal b
+    unfolding headerLegal
+    no-unused q = rw (sym er ∙ yes, sym ez ∙ q)
+
+    pub then-limits : z ≡ true → countsFit (decode b) ≡ headerLegal b
+    unfolding headerLegal
+    then-limits q = rw (sym er ∙ yes, sym ez ∙ q)
+
+-- the tests, one by one
+pub record Header (b : List ℕ) : Type 0 where
+  pub mark : stateMark ≡ take markWidth b
+  pub unused : zeros (headerSize - headerUsed) ≡ take (headerSize - headerUsed) (drop headerUsed b)
+  pub limits : T (countsFit (decode b))
+
+module _ (b : List ℕ) (long : headerSize ≤ length b) where
+  pub legal-header : T (headerLegal b) → Header b
+  unfolding headerLegal
+  legal-header t = record {
+    mark = same→eq stateMark (take markWidth b) (search (and-l, and-r, t) depth 4);
+    unused = sym (zerosAt→zeros b headerUsed (headerSize - headerUsed) (omega arith) (search (and-l, and-r, t) depth 4));
+    limits = search (and-l, and-r, t) depth 4;
+  }
+
+  pub header-legal : Header b → T (headerLegal b)
+  unfolding headerLegal
+  header-legal h =
+      let mark : T (sameBytes stateMark (take markWidth b)) = rw (← h .mark) (true-is (sameBytes stateMark stateMark) (same-refl stateMark)) in
+      let unused : T (zerosAt b headerUsed (headerSize - headerUsed)) = zeros→zerosAt b headerUsed (headerSize - headerUsed) (sym (h .unused)) in
+      let limits : T (countsFit (decode b)) = h .limits in
+      search (both, mark, unused, limits) depth 4

@@ -1,0 +1,4 @@
+pub mod Judging
+pub mod OperationLaws
+pub mod Places
+pub mod Steps

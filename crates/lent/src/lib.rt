@@ -1,0 +1,1 @@
+// The sections of a stored state, as they are lent: laws in specs/ alone.

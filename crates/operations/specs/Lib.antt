@@ -1,0 +1,2 @@
+pub mod Performing
+pub mod Codes

@@ -1,0 +1,4 @@
+pub mod Fields
+pub mod Operations
+pub mod Puts
+pub mod Room

@@ -1,0 +1,127 @@
+// The bytes of an addition to an AG body.
+ghost use mathlib.Core.Path.{_≡_};
+ghost use mathlib.Core.Bool.{true};
+ghost use Prim.Native.Nat.{_+_, _≤_, _<_};
+ghost use lib.ListN.{length, take};
+ghost use lib.Dec.{T};
+ghost use Rattle.basis.specs.Lists.{all};
+ghost use Rattle.basis.specs.Sizes.{countWidth, mostFields, valueSize};
+ghost use Rattle.model.specs.Value.{value};
+ghost use Rattle.model.specs.Writing.{valueBytes};
+ghost use Rattle.statements.specs.Flat.{forms, hasForm};
+ghost use Rattle.parts.specs.Room.{mostFieldSize, fieldsRoom, mostOperationSize};
+ghost use Rattle.parts.specs.Puts.{Puts};
+ghost use Rattle.writer.specs.HasBytes.{hasBytes};
+ghost use Rattle.parts.specs.Fields.{PutField, PutFields};
+ghost use Rattle.parts.specs.Operations.{PutCounted, PutOperation};
+use statements::ANONYMOUS;
+use statements::FORMAL;
+use statements::Field;
+use statements::Operation;
+use statements::REFERENCE;
+use statements::TRUE;
+use statements::TWO_SPACES;
+use words::CODE_WIDTH;
+use words::COUNT_WIDTH;
+use words::FORM_WIDTH;
+use words::KIND_WIDTH;
+use words::SPACE_WIDTH;
+use words::VALUE;
+use words::VALUE_BITS_AT;
+use words::VARIABLE_WIDTH;
+use words::put_space_number;
+use words::put4;
+
+// Where the variable of form 1 stands, and the value of forms 3 and 4.
+const FORMAL_VARIABLE_AT: usize = FORM_WIDTH + KIND_WIDTH;
+
+const SUM_VALUE_AT: usize = FORM_WIDTH + VARIABLE_WIDTH;
+
+// An operation: code, space, field count; with two spaces, code, from, to, field count.
+const FROM_AT: usize = CODE_WIDTH;
+
+const TO_AT: usize = FROM_AT + SPACE_WIDTH;
+
+const PAST_TO: usize = TO_AT + SPACE_WIDTH;
+
+// A kind and the four bytes of a value, from index at on. The index after them.
+fn put_value(t: &mut [u8], at: usize, kind: u8, bits: u32) -> usize
+    requires { ⌜ at + valueSize ≤ length (now t) ⌝ }
+    ensures { λ r. ⌜ Puts (now (t .entry)) at (valueBytes (value kind bits)) (now (t .exit)) r ⌝ }
+{
+    t[at] = kind;
+    put4(t, at + VALUE_BITS_AT, bits);
+    at + VALUE
+}
+
+// A field, from index at on: its form, then what the form has. The index after it.
+fn put_field(t: &mut [u8], at: usize, f: Field) -> usize
+    requires { ⌜ (f .form < forms) × (at + mostFieldSize ≤ length (now t)) ⌝ }
+    ensures { λ r. ⌜ PutField f (now (t .entry)) at (now (t .exit)) r ⌝ }
+{
+    let form = f.form;
+    t[at] = form;
+    match form {
+        0 => put_value(t, at + FORM_WIDTH, f.kind, f.bits),
+        1 => {
+            t[at + FORM_WIDTH] = f.kind;
+            t[at + FORMAL_VARIABLE_AT] = f.variable;
+            at + FORMAL
+        }
+        2 => {
+            t[at + FORM_WIDTH] = f.variable;
+            at + REFERENCE
+        }
+        3 | 4 => {
+            t[at + FORM_WIDTH] = f.variable;
+            put_value(t, at + SUM_VALUE_AT, f.kind, f.bits)
+        }
+        _ => {
+            t[at + FORM_WIDTH] = f.kind;
+            at + ANONYMOUS
+        }
+    }
+}
+
+// The fields of an operation, one after the other. The index after them.
+fn put_fields(t: &mut [u8], at: usize, op: Operation) -> usize
+    requires { ⌜ (op .count ≤ mostFields) × T (all hasForm (take (op .count) (op .fields))) × (at + fieldsRoom ≤ length (now t)) ⌝ }
+    ensures { λ r. ⌜ PutFields (take (op .count) (op .fields)) (now (t .entry)) at (now (t .exit)) r ⌝ }
+{
+    let fields = op.fields;
+    let count = op.count;
+    let mut end = at;
+    let mut i: usize = 0;
+    while i < count {
+        let f = fields[i];
+        end = put_field(t, end, f);
+        i += 1;
+    }
+    end
+}
+
+// A field count and the fields of an operation. The index after them.
+fn put_counted(t: &mut [u8], at: usize, op: Operation) -> usize
+    requires { ⌜ (op .count ≤ mostFields) × T (all hasForm (take (op .count) (op .fields))) × (at + countWidth + fieldsRoom ≤ length (now t)) ⌝ }
+    ensures { λ r. ⌜ PutCounted (take (op .count) (op .fields)) (now (t .entry)) at (now (t .exit)) r ⌝ }
+{
+    t[at] = op.count as u8;
+    put_fields(t, at + COUNT_WIDTH, op)
+}
+
+// An operation, from index at on: its code, its spaces, its field count and its fields. The index after it.
+pub fn put_operation(t: &mut [u8], at: usize, op: Operation) -> usize
+    requires { ⌜ (hasBytes op ≡ true) × (at + mostOperationSize ≤ length (now t)) ⌝ }
+    ensures { λ r. ⌜ PutOperation op (now (t .entry)) at (now (t .exit)) r ⌝ }
+{
+    t[at] = op.code;
+    if op.code == TRUE {
+        return at + CODE_WIDTH;
+    }
+    put_space_number(t, at + FROM_AT, op.from);
+    if op.code < TWO_SPACES {
+        return put_counted(t, at + TO_AT, op);
+    }
+    put_space_number(t, at + TO_AT, op.to);
+    put_counted(t, at + PAST_TO, op)
+}

@@ -1,0 +1,3 @@
+pub mod Asking
+pub mod BodyLaws
+pub mod OpenLaws

@@ -1,0 +1,89 @@
+-- The reply to a statement that ran, and none to one that did not. Assumes nothing.
+use mathlib.Core.Path.{_≡_, refl, ap, subst}
+use Prim.Native.Nat.{ℕ, zero, suc, _≤_}
+use native.Mathlib.Omega.{arith}
+use mathlib.Core.Bool.{Bool, true, false, cond}
+use mathlib.Core.Option.{Option, none, some}
+use mathlib.Core.List.{List, [], _∷_, _++_, flatMap, append-nil}
+use lib.ListN.{length, getD, length-append}
+use lib.Dec.{eqb}
+use Rattle.basis.specs.Choice.{maybe}
+use Rattle.basis.specs.Sizes.{variables, mostReply}
+use Rattle.model.specs.Value.{Value, value}
+use Rattle.model.specs.Statement.{Statement}
+use Rattle.model.specs.Execution.{Executed, attempt, tuplesAfter}
+use Rattle.model.specs.ExecutionLaws.{attempt-runs}
+use Rattle.model.specs.Run.{Run, withTuples, Reply, outcomeOf, valuesOf, ranReply}
+use Rattle.layout.specs.Replies.{replyBytes, repliesBytes}
+use Rattle.layout.specs.ReplyLaws.{reply-length}
+use Rattle.layout.specs.Stored.{Stored, Turned}
+use Rattle.replies.specs.Written.{boundTo, reply, ranValues, Wrote}
+use Rattle.running.specs.Executed.{still, executed, Left}
+
+-- ---- no reply, and one
+
+pub turned-still : (s : Run) (state out : List ℕ) → Stored state s → Turned (still s) out state out 0
+unfolding still repliesBytes flatMap
+turned-still s state out h = record { stored = h; bytes = refl; number = refl }
+
+pub one-reply : (r : Reply) → repliesBytes (r ∷ []) ≡ replyBytes r
+unfolding repliesBytes flatMap
+one-reply r = append-nil (replyBytes r)
+
+turned-one : (s : Run) (r : Reply) (state buffer out : List ℕ) (n : ℕ) → Stored state s → Wrote r buffer out n → Turned (record { run = s; replies = r ∷ [] }) buffer state out n
+turned-one s r state buffer out n h w = record { stored = h; bytes = rw (one-reply r) (w .bytes); number = rw (one-reply r) (w .number) }
+
+-- ---- no longer than a reply with all variables
+
+bound-few : (n : ℕ) (bs : List Bool) (ks ns : List ℕ) → length (boundTo n bs ks ns) ≤ n
+unfolding boundTo
+bound-few zero bs ks ns = omega arith
+bound-few (suc x) bs ks ns = go (getD bs x false) (bound-few x bs ks ns)
+  where
+    go : (b : Bool) → length (boundTo x bs ks ns) ≤ x → length (boundTo x bs ks ns ++ cond b ((x, value (getD ks x 0) (getD ns x 0)) ∷ []) []) ≤ suc x
+    go true h = omega (arith, length-append (boundTo x bs ks ns) ((x, value (getD ks x 0) (getD ns x 0)) ∷ []))
+    go false h = omega (arith, ap length (append-nil (boundTo x bs ks ns)))
+
+values-few : (outcome : ℕ) (bs : List Bool) (ks ns : List ℕ) → length (ranValues outcome bs ks ns) ≤ variables
+unfolding ranValues
+values-few outcome bs ks ns = go (eqb outcome 0)
+  where
+    go : (b : Bool) → length (cond b (boundTo variables bs ks ns) []) ≤ variables
+    go true = bound-few variables bs ks ns
+    go false = omega arith
+
+pub ran-short : (p h q outcome branch : ℕ) (bs : List Bool) (ks ns : List ℕ) (buffer out : List ℕ) (n : ℕ) → Wrote (reply p h q outcome branch (ranValues outcome bs ks ns)) buffer out n → n ≤ mostReply
+ran-short p h q outcome branch bs ks ns buffer out n w =
+    omega (arith, w .number, reply-length (reply p h q outcome branch (ranValues outcome bs ks ns)), values-few outcome bs ks ns)
+
+-- ---- what came of the attempt
+
+reply-is : (p h q outcome branch : ℕ) (vs : List (ℕ × Value)) (st : Statement) (e : Executed) → h ≡ st .host → q ≡ st .process → outcome ≡ outcomeOf (e .result) → branch ≡ e .branch → vs ≡ valuesOf (e .result)
+    → reply p h q outcome branch vs ≡ ranReply p st e
+unfolding ranReply
+reply-is p h q outcome branch vs st e eh eq eo eb ev = λ i. record { position = p; host = eh i; process = eq i; outcome = eo i; branch = eb i; values = ev i }
+
+module _ (s : Run) (p : ℕ) (st : Statement) (state : List ℕ) (branch outcome : ℕ) (vs : List (ℕ × Value)) where
+  -- no guard holds
+  pub run-none : (out : List ℕ) → Left s (attempt (s .tuples) st) state branch outcome vs → branch ≡ 0 → Turned (executed s p st) out state out 0
+  unfolding executed
+  run-none out l z = go (attempt (s .tuples) st) refl l
+    where
+      go : (o : Option Executed) → attempt (s .tuples) st ≡ o → Left s o state branch outcome vs
+          → Turned (maybe o (still s) (λ e. record { run = withTuples s (tuplesAfter (s .tuples) (e .result)); replies = ranReply p st e ∷ [] })) out state out 0
+      go none q l = turned-still s state out (l .stored)
+      go (some e) q l = absurd (omega (arith, l .runs, attempt-runs (s .tuples) st e q .number))
+
+  -- it ran, and is answered
+  pub run-some : (h q : ℕ) (buffer out : List ℕ) (n : ℕ) → Left s (attempt (s .tuples) st) state branch outcome vs → (branch ≡ 0 → ⊥) → h ≡ st .host → q ≡ st .process
+      → Wrote (reply p h q outcome branch vs) buffer out n → Turned (executed s p st) buffer state out n
+  unfolding executed
+  run-some h q buffer out n l z eh eq w = go (attempt (s .tuples) st) l
+    where
+      go : (o : Option Executed) → Left s o state branch outcome vs
+          → Turned (maybe o (still s) (λ e. record { run = withTuples s (tuplesAfter (s .tuples) (e .result)); replies = ranReply p st e ∷ [] })) buffer state out n
+      go none l = absurd (z (l .runs))
+      go (some e) l =
+          let a = l .answers e refl in
+          let r = reply-is p h q outcome branch vs st e eh eq (a .0) (l .runs) (a .1) in
+          turned-one (withTuples s (tuplesAfter (s .tuples) (e .result))) (ranReply p st e) state buffer out n (l .stored) (subst (λ (y : Reply). Wrote y buffer out n) r w)

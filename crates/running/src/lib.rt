@@ -1,0 +1,47 @@
+// A statement on the bytes of a state, answered.
+ghost use Prim.Native.Nat.{_≤_};
+ghost use lib.ListN.{length};
+ghost use Rattle.basis.specs.Sizes.{mostReply};
+ghost use Rattle.model.specs.Execution.{attempt};
+ghost use Rattle.layout.specs.States.{decode};
+ghost use Rattle.layout.specs.Stored.{IsStored, Turned, statementOf};
+ghost use Rattle.replies.specs.Written.{ranValues};
+ghost use Rattle.running.specs.Executed.{MayRun, executed, Left};
+use engine::Ran;
+
+// Rules 2 to 5 on the tuples of a state, with their count.
+fn attempt_in(state: &mut [u8], body: &[u8]) -> Ran
+    requires { ⌜ IsStored (now state) × MayRun (decode (now state)) (now body) ⌝ }
+    ensures { λ r. ⌜ Left (decode (now (state .entry))) (attempt ((decode (now (state .entry))) .tuples) (statementOf (now (body .entry)))) (now (state .exit)) (r .branch) (r .outcome) (ranValues (r .outcome) (r .vars .bound) (r .vars .kinds) (r .vars .bits)) ⌝ }
+{
+    let n = header::tuple_count(state);
+    let ran = engine::attempt(&mut state[words::TUPLES_AT..words::TUPLES_END], n, body);
+    header::set_tuple_count(state, ran.n);
+    ran
+}
+
+// A statement runs where a guard of it holds, and is answered at a position; 0 where none does.
+pub fn run_body(state: &mut [u8], position: u32, body: &[u8], out: &mut [u8]) -> usize
+    requires { ⌜ IsStored (now state) × MayRun (decode (now state)) (now body) × (mostReply ≤ length (now out)) ⌝ }
+    ensures { λ r. ⌜ Turned (executed (decode (now (state .entry))) position (statementOf (now (body .entry)))) (now (out .entry)) (now (state .exit)) (now (out .exit)) r × (r ≤ mostReply) ⌝ }
+{
+    let ran = attempt_in(state, body);
+    if ran.branch == 0 {
+        return 0;
+    }
+    let vars = ran.vars;
+    let bound = vars.bound;
+    let kinds = vars.kinds;
+    let bits = vars.bits;
+    replies::ran_reply(
+        out,
+        position,
+        body[0],
+        words::word2(body, words::PROCESS_AT),
+        ran.outcome,
+        ran.branch,
+        bound,
+        kinds,
+        bits,
+    )
+}

@@ -1,0 +1,4 @@
+pub mod Lines
+pub mod LineCases
+pub mod Written
+pub mod ReadLaws

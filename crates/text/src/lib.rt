@@ -1,0 +1,1 @@
+// What the program prints: definitions, and their laws on the bytes of replies, in specs/ alone.

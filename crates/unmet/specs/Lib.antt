@@ -1,0 +1,2 @@
+pub mod Unmet
+pub mod UnmetLaws

@@ -1,0 +1,3 @@
+pub mod Validation
+pub mod TupleLaws
+pub mod StateLaws

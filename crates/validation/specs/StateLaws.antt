@@ -1,0 +1,226 @@
+-- The tests of header and sections, all together, are `isState`. Assumes nothing.
+use mathlib.Core.Path.{_≡_, refl, sym, ap, _∙_}
+use Prim.Native.Nat.{ℕ, _+_, _*_, _≤_, _<_}
+use native.Mathlib.Omega.{arith}
+use mathlib.Core.Bool.{Bool, true, false, not, _&&_}
+use mathlib.Core.List.{List, List·Memᴰ}
+use lib.ListN.{length, take, drop, getD, length-drop}
+use lib.Seq.{length-take-le}
+use lib.Dec.{T, leb, eqb, leb→le, eqb→eq}
+use lib.Pow.{areBytes}
+use borrow.Author.Tests.{eq-eqb}
+use Rattle.basis.specs.Logic.{and-l, and-r, both, true-is}
+use Rattle.basis.specs.Lists.{all, any, pairwise, sameBytes}
+use Rattle.basis.specs.ListLaws.{all-at, all-of, same-refl, same→eq}
+use Rattle.basis.specs.Numbers.{numberAt}
+use Rattle.basis.specs.NumberLaws.{bytes-take, bytes-drop}
+use Rattle.basis.specs.Sizes.{mostMonitors, spaceNumbers, mostSpaces, mostTuples, mostWaiting, tupleCountWidth, spaceCountAt, tupleCountAt, waitingCountAt, headerSize, spaceSize, tupleSize, waitingSize, spacesSize, tuplesSize, waitingAllSize, spacesAt, tuplesAt, waitingAt, stateSize}
+use Rattle.model.specs.Matching.{Tuple}
+use Rattle.model.specs.Execution.{canWait}
+use Rattle.model.specs.Run.{Space, Waiting, Run, hostUp}
+use Rattle.model.specs.Valid.{countsFit, legalTuple, spacesRise, waitingRise, zeroShared, spacesBelowNext, tuplesInOpen, positionsFit, bodiesLegal, waitingHostsUp, processesDiffer, openToProcess, namedSpacesOpen, waitingCanWait, noneReady, validRun}
+use Rattle.model.specs.ValidLaws.{valid-counts, valid-tuples, valid-spaces-rise, valid-waiting-rise, valid-zero, valid-below-next, valid-in-open, valid-positions, valid-bodies, valid-hosts-up, valid-processes, valid-named-open, valid-can-wait, valid-none-ready, valid-of}
+use Rattle.layout.specs.States.{spaceBytes, tupleBytes, waitingBytes, area, byteAt, spaceRead, tupleRead, waitingRead, encode, entries, decode}
+use Rattle.layout.specs.IsState.{isState}
+use Rattle.layout.specs.StateLaws.{state-encode, state-valid}
+use Rattle.sections.specs.Shapes.{entries-length}
+use Rattle.sections.specs.Tests.{refused, same-test}
+use Rattle.header.specs.Whole.{headerLegal}
+use Rattle.header.specs.WholeLaws.{lent-says, Says, says-same, same-says, Header, legal-header, header-legal}
+use Rattle.tuples.specs.Section.{tuplesOf}
+use Rattle.spaces.specs.Spaces.{spacesOf, IsListed, Rising}
+use Rattle.spaces.specs.Legal.{spacesLegal}
+use Rattle.spaces.specs.LegalLaws.{legal-listed, legal-rising}
+use Rattle.queue.specs.Queue.{waitingOf, IsQueued}
+use Rattle.queue.specs.Legal.{otherProcess, queueLegal, inOrder}
+use Rattle.queue.specs.LegalLaws.{legal-queued}
+use Rattle.waiting.specs.Waits.{openToIt, mayWait, unready}
+use Rattle.validation.specs.Validation.{spacesIn, tuplesIn, waitingIn, inOpen, tuplesLegal, waitsLegal, contentsLegal}
+
+-- ---- the counts
+
+pub record Counts (b : List ℕ) : Type 0 where
+  pub spaces : length ((decode b) .spaces) ≤ mostSpaces
+  pub tuples : length ((decode b) .tuples) ≤ mostTuples
+  pub waiting : length ((decode b) .waiting) ≤ mostWaiting
+
+pub counts-of : (b : List ℕ) → T (countsFit (decode b)) → Counts b
+unfolding countsFit
+counts-of b t = record {
+  spaces = leb→le (length ((decode b) .spaces)) mostSpaces (search (and-l, and-r, t) depth 8);
+  tuples = leb→le (length ((decode b) .tuples)) mostTuples (search (and-l, and-r, t) depth 8);
+  waiting = leb→le (length ((decode b) .waiting)) mostWaiting (search (and-l, and-r, t) depth 8);
+}
+
+-- ---- the sections say what the state says
+
+module _ (b : List ℕ) (k : Counts b) where
+  pub spaces-are : spacesOf (spacesIn b) (length ((decode b) .spaces)) ≡ (decode b) .spaces
+  unfolding decode
+  spaces-are =
+      let n : ℕ = byteAt spaceCountAt b in
+      let c : length (entries spaceRead n spaceSize spacesAt b) ≡ n = entries-length spaceRead n spaceSize spacesAt b in
+      let few = k .spaces in
+      ap (λ (m : ℕ). entries spaceRead m spaceSize 0 (spacesIn b)) c ∙ lent-says spaceRead n spaceSize spacesSize spacesAt b (omega arith)
+
+  pub tuples-are : tuplesOf (tuplesIn b) (length ((decode b) .tuples)) ≡ (decode b) .tuples
+  unfolding decode
+  tuples-are =
+      let n : ℕ = numberAt tupleCountAt tupleCountWidth b in
+      let c : length (entries tupleRead n tupleSize tuplesAt b) ≡ n = entries-length tupleRead n tupleSize tuplesAt b in
+      let few = k .tuples in
+      ap (λ (m : ℕ). entries tupleRead m tupleSize 0 (tuplesIn b)) c ∙ lent-says tupleRead n tupleSize tuplesSize tuplesAt b (omega arith)
+
+  pub waiting-are : waitingOf (waitingIn b) (length ((decode b) .waiting)) ≡ (decode b) .waiting
+  unfolding decode
+  waiting-are =
+      let n : ℕ = byteAt waitingCountAt b in
+      let c : length (entries waitingRead n waitingSize waitingAt b) ≡ n = entries-length waitingRead n waitingSize waitingAt b in
+      let few = k .waiting in
+      ap (λ (m : ℕ). entries waitingRead m waitingSize 0 (waitingIn b)) c ∙ lent-says waitingRead n waitingSize waitingAllSize waitingAt b (omega arith)
+
+  -- the sections' tests on the run's lists
+  contents-are : contentsLegal b ≡ ((sameBytes (area spacesSize spaceSize spaceBytes ((decode b) .spaces)) (spacesIn b) && (spacesRise (decode b) && (zeroShared (decode b) && spacesBelowNext (decode b))))
+      && ((sameBytes (area tuplesSize tupleSize tupleBytes ((decode b) .tuples)) (tuplesIn b) && (all legalTuple ((decode b) .tuples) && tuplesInOpen (decode b)))
+      && ((sameBytes (area waitingAllSize waitingSize waitingBytes ((decode b) .waiting)) (waitingIn b) && bodiesLegal (decode b))
+      && ((waitingRise (decode b) && positionsFit (decode b)) && (processesDiffer (decode b) && (all (mayWait ((decode b) .up) ((decode b) .spaces)) ((decode b) .waiting) && noneReady (decode b)))))))
+  unfolding contentsLegal spacesLegal tuplesLegal queueLegal waitsLegal inOrder spacesRise zeroShared spacesBelowNext tuplesInOpen bodiesLegal waitingRise positionsFit processesDiffer noneReady
+  contents-are = rw (spaces-are, tuples-are, waiting-are)
+
+module _ (b : List ℕ) (bytes : T (areBytes b)) (long : length b ≡ stateSize) where
+  -- they make a state
+  state-of : T (headerLegal b) → T (contentsLegal b) → T (isState b)
+  unfolding isState waitingHostsUp hostUp namedSpacesOpen openToProcess waitingCanWait mayWait
+  state-of h t =
+      let header : Header b = legal-header b (omega arith) h in
+      let k : Counts b = counts-of b (header .limits) in
+      let u = rw (contents-are b k) at t in
+      let s = decode b in
+      let says : Says b = record {
+        mark = header .mark;
+        unused = header .unused;
+        spaces = same→eq (area spacesSize spaceSize spaceBytes (s .spaces)) (spacesIn b) (search (and-l, and-r, u) depth 10);
+        tuples = same→eq (area tuplesSize tupleSize tupleBytes (s .tuples)) (tuplesIn b) (search (and-l, and-r, u) depth 10);
+        waiting = same→eq (area waitingAllSize waitingSize waitingBytes (s .waiting)) (waitingIn b) (search (and-l, and-r, u) depth 10);
+      } in
+      let each = all-at (mayWait (s .up) (s .spaces)) (s .waiting) (search (and-l, and-r, u) depth 10) in
+      let up : T (waitingHostsUp s) = all-of (λ w. getD (s .up) (w .statement .host) false) (s .waiting) (λ w m. and-l (getD (s .up) (w .statement .host) false) (openToIt (s .spaces) w && canWait (w .statement)) (each w m)) in
+      let rest : (w : Waiting) → List·Memᴰ w (s .waiting) → T (openToIt (s .spaces) w && canWait (w .statement)) = λ w m. and-r (getD (s .up) (w .statement .host) false) (openToIt (s .spaces) w && canWait (w .statement)) (each w m) in
+      let named : T (namedSpacesOpen s) = all-of (openToIt (s .spaces)) (s .waiting) (λ w m. and-l (openToIt (s .spaces) w) (canWait (w .statement)) (rest w m)) in
+      let wait : T (waitingCanWait s) = all-of (λ w. canWait (w .statement)) (s .waiting) (λ w m. and-r (openToIt (s .spaces) w) (canWait (w .statement)) (rest w m)) in
+      let valid : T (validRun s) = valid-of s (header .limits) (search (and-l, and-r, u) depth 10) (search (and-l, and-r, u) depth 10) (search (and-l, and-r, u) depth 10) (search (and-l, and-r, u) depth 10) (search (and-l, and-r, u) depth 10)
+      (search (and-l, and-r, u) depth 10) (search (and-l, and-r, u) depth 10) (search (and-l, and-r, u) depth 10) up (search (and-l, and-r, u) depth 10) named wait (search (and-l, and-r, u) depth 10) in
+      let size : T (eqb (length b) stateSize) = true-is (eqb (length b) stateSize) (eq-eqb (length b) stateSize long) in
+      let same : T (sameBytes (encode s) b) = rw (says-same b long bytes says) (true-is (sameBytes b b) (same-refl b)) in
+      search (both, size, same, valid) depth 4
+
+  -- and a state passes them
+  module _ (i : T (isState b)) where
+    pub state-header : T (headerLegal b)
+    state-header =
+        let says : Says b = same-says b long (state-encode b i) in
+        header-legal b (omega arith) (record { mark = says .mark; unused = says .unused; limits = valid-counts (decode b) (state-valid b i) })
+
+    pub state-contents : T (contentsLegal b)
+    unfolding waitingHostsUp hostUp namedSpacesOpen openToProcess waitingCanWait mayWait
+    state-contents =
+        let s = decode b in
+        let v : T (validRun s) = state-valid b i in
+        let says : Says b = same-says b long (state-encode b i) in
+        let k : Counts b = counts-of b (valid-counts s v) in
+        let spaces : T (sameBytes (area spacesSize spaceSize spaceBytes (s .spaces)) (spacesIn b)) = rw (says .spaces) (true-is (sameBytes (spacesIn b) (spacesIn b)) (same-refl (spacesIn b))) in
+        let tuples : T (sameBytes (area tuplesSize tupleSize tupleBytes (s .tuples)) (tuplesIn b)) = rw (says .tuples) (true-is (sameBytes (tuplesIn b) (tuplesIn b)) (same-refl (tuplesIn b))) in
+        let waiting : T (sameBytes (area waitingAllSize waitingSize waitingBytes (s .waiting)) (waitingIn b)) = rw (says .waiting) (true-is (sameBytes (waitingIn b) (waitingIn b)) (same-refl (waitingIn b))) in
+        let up = all-at (λ w. getD (s .up) (w .statement .host) false) (s .waiting) (valid-hosts-up s v) in
+        let named = all-at (openToIt (s .spaces)) (s .waiting) (valid-named-open s v) in
+        let wait = all-at (λ w. canWait (w .statement)) (s .waiting) (valid-can-wait s v) in
+        let may : T (all (mayWait (s .up) (s .spaces)) (s .waiting)) = all-of (mayWait (s .up) (s .spaces)) (s .waiting) (λ w m.
+        both (getD (s .up) (w .statement .host) false) (openToIt (s .spaces) w && canWait (w .statement)) (up w m) (both (openToIt (s .spaces) w) (canWait (w .statement)) (named w m) (wait w m))) in
+        rw (contents-are b k)
+        (search (both, spaces, tuples, waiting, may, valid-spaces-rise s v, valid-zero s v, valid-below-next s v, valid-tuples s v, valid-in-open s v, valid-bodies s v, valid-waiting-rise s v, valid-positions s v, valid-processes s v, valid-none-ready s v) depth 12)
+
+-- ---- what the tests of the check show
+
+pub no-length : (b : List ℕ) → (length b ≡ stateSize → ⊥) → false ≡ isState b
+unfolding isState
+no-length b h = refused (eqb (length b) stateSize && sameBytes (encode (decode b)) b && validRun (decode b)) (λ t. let e : T (eqb (length b) stateSize) = search (and-l, and-r, t) depth 4 in h (eqb→eq (length b) stateSize e))
+
+module _ (b : List ℕ) (bytes : T (areBytes b)) (long : length b ≡ stateSize) where
+  pub no-header : (r : Bool) → r ≡ headerLegal b → r ≡ false → false ≡ isState b
+  no-header r e f = refused (isState b) (λ i. rw (sym e ∙ f) at (state-header b bytes long i))
+
+  pub then-contents : T (headerLegal b) → contentsLegal b ≡ isState b
+  then-contents h = same-test (contentsLegal b) (isState b) (state-of b bytes long h) (state-contents b bytes long)
+
+-- ---- what the tests of the sections show
+
+pub section-long : (b : List ℕ) (whole at : ℕ) → at + whole ≤ length b → length (take whole (drop at b)) ≡ whole
+section-long b whole at h = length-take-le whole (drop at b) (simp length-drop (omega arith))
+
+module _ (s : Run) (ss : List Space) (ts : List Tuple) (ws : List Waiting) (last : ℕ) (el : last ≡ s .last) (o : Bool) (eo : o ≡ inOrder last ws) where
+  order-is : inOrder (s .last) ws ≡ o
+  order-is = sym (eo ∙ ap (λ (n : ℕ). inOrder n ws) el)
+
+  pub no-order : o ≡ false → false ≡ waitsLegal s ss ts ws
+  unfolding waitsLegal
+  no-order z = rw (order-is ∙ z)
+
+  module _ (yo : o ≡ true) (d : Bool) (ed : d ≡ pairwise otherProcess ws) where
+    pub no-process : d ≡ false → false ≡ waitsLegal s ss ts ws
+    unfolding waitsLegal
+    no-process z = rw (order-is ∙ yo, sym ed ∙ z)
+
+    module _ (yd : d ≡ true) (up : List Bool) (eu : up ≡ s .up) (m : Bool) (em : m ≡ all (mayWait up ss) ws) where
+      may-is : all (mayWait (s .up) ss) ws ≡ m
+      may-is = sym (em ∙ ap (λ (u : List Bool). all (mayWait u ss) ws) eu)
+
+      pub no-wait : m ≡ false → false ≡ waitsLegal s ss ts ws
+      unfolding waitsLegal
+      no-wait z = rw (order-is ∙ yo, sym ed ∙ yd, may-is ∙ z)
+
+      pub then-ready : m ≡ true → all (unready ts) ws ≡ waitsLegal s ss ts ws
+      unfolding waitsLegal
+      then-ready z = rw (order-is ∙ yo, sym ed ∙ yd, may-is ∙ z)
+
+-- the sections one after the other
+module _ (b : List ℕ) (n next m k : ℕ) (en : n ≡ length ((decode b) .spaces)) (ex : next ≡ (decode b) .next) (r : Bool) (er : r ≡ spacesLegal (spacesIn b) n next) where
+  spaces-test : spacesLegal (spacesIn b) (length ((decode b) .spaces)) ((decode b) .next) ≡ r
+  spaces-test = sym (er ∙ rw (en, ex))
+
+  pub no-spaces : r ≡ false → false ≡ contentsLegal b
+  unfolding contentsLegal
+  no-spaces z = rw (spaces-test ∙ z)
+
+  module _ (yr : r ≡ true) (em : m ≡ length ((decode b) .tuples)) (t : Bool) (et : t ≡ tuplesLegal (spacesOf (spacesIn b) n) (tuplesIn b) m) where
+    tuples-test : tuplesLegal (spacesOf (spacesIn b) (length ((decode b) .spaces))) (tuplesIn b) (length ((decode b) .tuples)) ≡ t
+    tuples-test = sym (et ∙ rw (en, em))
+
+    pub no-tuples : t ≡ false → false ≡ contentsLegal b
+    unfolding contentsLegal
+    no-tuples z = rw (spaces-test ∙ yr, tuples-test ∙ z)
+
+    module _ (yt : t ≡ true) (ek : k ≡ length ((decode b) .waiting)) (q : Bool) (eq : q ≡ queueLegal (waitingIn b) k) where
+      queue-test : queueLegal (waitingIn b) (length ((decode b) .waiting)) ≡ q
+      queue-test = sym (eq ∙ rw ek)
+
+      pub no-queue : q ≡ false → false ≡ contentsLegal b
+      unfolding contentsLegal
+      no-queue z = rw (spaces-test ∙ yr, tuples-test ∙ yt, queue-test ∙ z)
+
+      pub then-waits : q ≡ true → waitsLegal (decode b) (spacesOf (spacesIn b) n) (tuplesOf (tuplesIn b) m) (waitingOf (waitingIn b) k) ≡ contentsLegal b
+      unfolding contentsLegal
+      then-waits z = rw (spaces-test ∙ yr, tuples-test ∙ yt, queue-test ∙ z, en, em, ek)
+
+-- the sections that passed
+module _ (b : List ℕ) (bytes : T (areBytes b)) (long : length b ≡ stateSize) where
+  part-bytes : (whole at : ℕ) → T (areBytes (take whole (drop at b)))
+  part-bytes whole at = bytes-take whole (drop at b) (bytes-drop at b bytes)
+
+  pub listed : (n next : ℕ) → T (spacesLegal (spacesIn b) n next) → n ≡ length ((decode b) .spaces) → Counts b → IsListed (spacesIn b) n × Rising (spacesOf (spacesIn b) n)
+  listed n next t e k =
+      let few : n ≤ mostSpaces = omega (arith, k .spaces) in
+      let l : length (spacesIn b) ≡ spacesSize = section-long b spacesSize spacesAt (omega arith) in
+      (legal-listed (spacesIn b) n next (part-bytes spacesSize spacesAt) l few t, legal-rising (spacesIn b) n next (part-bytes spacesSize spacesAt) l few t)
+
+  pub queued : (k : ℕ) → k ≤ mostWaiting → T (queueLegal (waitingIn b) k) → IsQueued (waitingIn b) k
+  queued k few t = legal-queued (waitingIn b) k (part-bytes waitingAllSize waitingAt) (section-long b waitingAllSize waitingAt (omega arith)) few t

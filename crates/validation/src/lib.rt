@@ -1,0 +1,117 @@
+// The test of "The state buffer": whether bytes are a state.
+ghost use mathlib.Core.Path.{_≡_};
+ghost use Prim.Native.Nat.{_≤_};
+ghost use mathlib.Core.Bool.{_&&_};
+ghost use lib.ListN.{length};
+ghost use lib.Dec.{T};
+ghost use Rattle.basis.specs.Lists.{all, pieces};
+ghost use Rattle.basis.specs.Numbers.{bits};
+ghost use Rattle.basis.specs.Sizes.{hosts, mostSpaces, mostTuples, tupleSize, tuplesSize, stateSize};
+ghost use Rattle.model.specs.Valid.{countsFit};
+ghost use Rattle.layout.specs.States.{decode};
+ghost use Rattle.layout.specs.IsState.{isState};
+ghost use Rattle.tuples.specs.Section.{tuplesOf};
+ghost use Rattle.spaces.specs.Spaces.{spacesOf, IsListed, Rising};
+ghost use Rattle.queue.specs.Queue.{waitingOf, IsQueued};
+ghost use Rattle.header.specs.Whole.{headerLegal};
+ghost use Rattle.validation.specs.Validation.{spacesIn, tuplesIn, waitingIn, rowOpen, tuplesLegal, waitsLegal, contentsLegal};
+
+// Each of m rows is that of a legal tuple, and "tuples lie in open spaces".
+fn rows_ok(tuples: &[u8], m: usize, spaces: &[u8], n: usize) -> bool
+    requires { ⌜ (length (now tuples) ≡ tuplesSize) × (m ≤ mostTuples) × IsListed (now spaces) n × Rising (spacesOf (now spaces) n) ⌝ }
+    ensures { λ r. ⌜ r ≡ all (rowOpen (spacesOf (now (spaces .entry)) n)) (pieces m tupleSize (now (tuples .entry))) ⌝ }
+{
+    let mut last = words::SPACE_NUMBERS;
+    let mut i = 0;
+    while i < m {
+        if !wellformed::tuple_ok(tuples, i) {
+            return false;
+        }
+        let number = sections::field(tuples, words::TUPLE, m, i, 0, words::SPACE_WIDTH) as u16;
+        if !spaces::still_open(spaces, n, number, last) {
+            return false;
+        }
+        last = number as u32;
+        i += 1;
+    }
+    true
+}
+
+// The tuples: their section is as they are written, each is legal and lies in an open space.
+fn tuples_ok(tuples: &[u8], m: usize, spaces: &[u8], n: usize) -> bool
+    requires { ⌜ (length (now tuples) ≡ tuplesSize) × (m ≤ mostTuples) × IsListed (now spaces) n × Rising (spacesOf (now spaces) n) ⌝ }
+    ensures { λ r. ⌜ r ≡ tuplesLegal (spacesOf (now (spaces .entry)) n) (now (tuples .entry)) m ⌝ }
+{
+    if !sections::unused_zero(tuples, words::TUPLE, m) {
+        return false;
+    }
+    rows_ok(tuples, m, spaces, n)
+}
+
+// The waiting statements: their order, "of a process that no other entry has", each may wait, and none is ready.
+fn waits_ok(b: &[u8], n: usize, m: usize, k: usize) -> bool
+    requires { ⌜ (length (now b) ≡ stateSize) × (m ≤ mostTuples) × IsListed (spacesIn (now b)) n × Rising (spacesOf (spacesIn (now b)) n) × IsQueued (waitingIn (now b)) k ⌝ }
+    ensures { λ r. ⌜ r ≡ waitsLegal (decode (now (b .entry))) (spacesOf (spacesIn (now (b .entry))) n) (tuplesOf (tuplesIn (now (b .entry))) m) (waitingOf (waitingIn (now (b .entry))) k) ⌝ }
+{
+    let last = header::last(b);
+    if !queue::in_order(&b[words::WAITING_AT..words::WAITING_END], k, last) {
+        return false;
+    }
+    if !queue::processes_differ(&b[words::WAITING_AT..words::WAITING_END], k) {
+        return false;
+    }
+    let up = header::hosts(b);
+    if !waiting::all_may_wait(
+        &b[words::WAITING_AT..words::WAITING_END],
+        k,
+        &b[words::SPACES_AT..words::SPACES_END],
+        n,
+        up,
+    ) {
+        return false;
+    }
+    waiting::none_ready(
+        &b[words::TUPLES_AT..words::TUPLES_END],
+        m,
+        &b[words::WAITING_AT..words::WAITING_END],
+        k,
+    )
+}
+
+// The sections, of bytes whose header is that of a state.
+fn contents_ok(b: &[u8]) -> bool
+    requires { ⌜ (length (now b) ≡ stateSize) × T (countsFit (decode (now b))) ⌝ }
+    ensures { λ r. ⌜ r ≡ contentsLegal (now (b .entry)) ⌝ }
+{
+    let n = header::space_count(b);
+    if !spaces::are_legal(&b[words::SPACES_AT..words::SPACES_END], n, header::next(b)) {
+        return false;
+    }
+    let m = header::tuple_count(b);
+    if !tuples_ok(
+        &b[words::TUPLES_AT..words::TUPLES_END],
+        m,
+        &b[words::SPACES_AT..words::SPACES_END],
+        n,
+    ) {
+        return false;
+    }
+    let k = header::waiting_count(b);
+    if !waiting::is_queue(&b[words::WAITING_AT..words::WAITING_END], k) {
+        return false;
+    }
+    waits_ok(b, n, m, k)
+}
+
+// "It is a state exactly if this layout and every limit hold, ..".
+pub fn is_state(b: &[u8]) -> bool
+    ensures { λ r. ⌜ r ≡ isState (now (b .entry)) ⌝ }
+{
+    if b.len() != words::STATE {
+        return false;
+    }
+    if !header::is_legal(b) {
+        return false;
+    }
+    contents_ok(b)
+}

@@ -1,0 +1,112 @@
+-- What the tests of a waiting statement show. Assumes nothing.
+use mathlib.Core.Path.{_≡_, refl, sym, ap, _∙_}
+use Prim.Native.Nat.{ℕ, _+_, _-_, _*_, _≤_, _<_}
+use native.Mathlib.Omega.{arith}
+use mathlib.Core.Bool.{Bool, true, false, not, _&&_, _||_}
+use mathlib.Core.Option.{some}
+use mathlib.Core.List.{List, [], _∷_, List·Memᴰ·head, List·Memᴰ·tail}
+use lib.ListN.{length, take, drop, getD}
+use lib.Dec.{T, leb, leb→le}
+use Rattle.basis.specs.Logic.{and-l, true-is}
+use Rattle.words.specs.Over.{zerosAt}
+use Rattle.sections.specs.RowLaws.{number-of-row}
+use Rattle.basis.specs.Choice.{isSome}
+use Rattle.basis.specs.Lists.{all, any, pieces}
+use Rattle.basis.specs.ListLaws.{Each}
+use Rattle.basis.specs.Numbers.{numberAt, bits}
+use Rattle.basis.specs.Sizes.{lengthWidth, hosts, mostBody, mostWaiting, waitingLengthAt, waitingBodyAt, waitingSize}
+use Rattle.model.specs.Statement.{Statement, spacesNamed}
+use Rattle.model.specs.Legal.{parse, legalBody}
+use Rattle.model.specs.Matching.{Tuple}
+use Rattle.model.specs.Execution.{ready, canWait}
+use Rattle.model.specs.Run.{Space, Waiting, isOpen, isDenied}
+use Rattle.layout.specs.Stored.{statementOf, statement-of}
+use Rattle.sections.specs.Shapes.{holds-length}
+use Rattle.queue.specs.Queue.{waitingShape, waitingOf, IsQueued}
+use Rattle.queue.specs.PlaceLaws.{waitingNth, bodySize, bodyOf, stands}
+use Rattle.queue.specs.Legal.{sizeIn, bodyFits, rowLegal}
+use Rattle.queue.specs.LegalLaws.{part-body}
+use Rattle.names.specs.Asks.{asks}
+use Rattle.names.specs.declared.Asked.the-variants.{Shut}
+use Rattle.waiting.specs.Waits.{openToIt, mayWait, unready}
+
+-- ---- a row
+
+pub no-fit : (p : List ℕ) (n i : ℕ) (r : Bool) → r ≡ bodyFits (getD (pieces n waitingSize p) i []) → r ≡ false → false ≡ rowLegal (getD (pieces n waitingSize p) i [])
+unfolding rowLegal
+no-fit p n i r er z = rw (sym er ∙ z)
+
+module _ (p : List ℕ) (n i len : ℕ) (h : i < n) (el : len ≡ numberAt (i * waitingSize + waitingLengthAt) lengthWidth p) (r : Bool) (er : r ≡ bodyFits (getD (pieces n waitingSize p) i [])) where
+  pub fit-small : r ≡ true → len ≤ mostBody
+  unfolding bodyFits
+  fit-small y =
+      let row : List ℕ = getD (pieces n waitingSize p) i [] in
+      let t : T (bodyFits row) = true-is (bodyFits row) (sym er ∙ y) in
+      let small : sizeIn row ≤ mostBody = leb→le (sizeIn row) mostBody (and-l (leb (sizeIn row) mostBody) (zerosAt row (waitingBodyAt + sizeIn row) (mostBody - sizeIn row)) t) in
+      omega (arith, el ∙ number-of-row n waitingSize p i waitingLengthAt lengthWidth h (omega arith))
+
+  -- then its body decides
+  pub then-body : r ≡ true → (at : ℕ) → at ≡ i * waitingSize + waitingBodyAt → len ≤ mostBody → legalBody (take (at + len - at) (drop at p)) ≡ rowLegal (getD (pieces n waitingSize p) i [])
+  unfolding rowLegal
+  then-body y at ea small = rw (sym er ∙ y) (ap legalBody (part-body p n i len h el at ea small))
+
+-- ---- the body of a statement that waits
+
+module _ (p : List ℕ) (n i at len : ℕ) (h : IsQueued p n) (b : i < n) (ea : at ≡ i * waitingSize + waitingBodyAt) (el : len ≡ bodySize p i) where
+  part-is : take (at + len - at) (drop at p) ≡ bodyOf p i
+  part-is =
+      let e : at + len - at ≡ len = omega arith in
+      rw (e, el, ea)
+
+  pub part-room : at + len ≤ length p
+  part-room = omega (arith, h .few, stands p n i h b .size, holds-length waitingShape p n (waitingOf p n) h)
+
+  pub part-legal : T (legalBody (take (at + len - at) (drop at p)))
+  unfolding legalBody isSome
+  part-legal = rw (part-is, stands p n i h b .parsed) tt
+
+  pub part-statement : statementOf (take (at + len - at) (drop at p)) ≡ (waitingNth p n i) .statement
+  part-statement = ap statementOf part-is ∙ statement-of (bodyOf p i) ((waitingNth p n i) .statement) (stands p n i h b .parsed)
+
+-- ---- whether it may wait
+
+not-any : {A : Type 0} (p q : A → Bool) (l : List A) → Each (λ (a : A). p a ≡ not (q a)) l → not (any p l) ≡ all q l
+unfolding any all
+not-any p q [] h = refl
+not-any p q (a ∷ l) h = rw (h a (List·Memᴰ·head refl)) (go (q a) (not-any p q l (λ c m. h c (List·Memᴰ·tail m))))
+  where
+    go : (t : Bool) → not (any p l) ≡ all q l → not (not t || any p l) ≡ (t && all q l)
+    go true e = e
+    go false e = refl
+
+module _ (up host process : ℕ) (ss : List Space) (w : Waiting) (st : Statement) (r : Bool) (eh : host ≡ w .statement .host) (er : r ≡ getD (bits hosts up) host false) where
+  host-is : getD (bits hosts up) (w .statement .host) false ≡ r
+  host-is = sym (er ∙ ap (λ (k : ℕ). getD (bits hosts up) k false) eh)
+
+  pub no-host : r ≡ false → false ≡ mayWait (bits hosts up) ss w
+  unfolding mayWait
+  no-host z = rw (host-is ∙ z)
+
+  module _ (yes : r ≡ true) (ep : process ≡ w .statement .process) (es : st ≡ w .statement) (s : Bool) (en : s ≡ any (asks ss (Shut process)) (spacesNamed st)) where
+    named-is : openToIt ss w ≡ not s
+    unfolding asks
+    named-is = sym (ap not en ∙ rw (es, ep) (not-any (λ n. not (isOpen ss n && not (isDenied ss (w .statement .process) n))) (λ n. isOpen ss n && not (isDenied ss (w .statement .process) n)) (spacesNamed (w .statement)) (λ n m. refl)))
+
+    pub no-space : s ≡ true → false ≡ mayWait (bits hosts up) ss w
+    unfolding mayWait
+    no-space z = rw (host-is ∙ yes, named-is ∙ ap not z)
+
+    pub then-can : s ≡ false → canWait st ≡ mayWait (bits hosts up) ss w
+    unfolding mayWait
+    then-can z = rw (host-is ∙ yes, named-is ∙ ap not z, es)
+
+-- ---- whether it is ready
+
+pub ready-is : (ts : List Tuple) (st : Statement) (w : Waiting) (r : Bool) → st ≡ w .statement → r ≡ ready ts st → r ≡ ready ts (w .statement)
+ready-is ts st w r e f = f ∙ ap (ready ts) e
+
+pub is-unready : (ts : List Tuple) (w : Waiting) (r : Bool) → r ≡ ready ts (w .statement) → r ≡ false → unready ts w ≡ true
+is-unready ts w r e f = rw (sym e ∙ f)
+
+pub not-unready : (ts : List Tuple) (w : Waiting) (r : Bool) → r ≡ ready ts (w .statement) → r ≡ true → unready ts w ≡ false
+not-unready ts w r e f = rw (sym e ∙ f)

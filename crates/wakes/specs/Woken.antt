@@ -1,0 +1,20 @@
+-- The turns of rule 7. Assumes nothing.
+use mathlib.Core.Path.{_≡_}
+use Prim.Native.Nat.{ℕ, _+_}
+use mathlib.Core.Option.{Option·getD}
+use mathlib.Core.List.{List, _++_}
+use lib.ListN.{length, take, drop}
+use Rattle.model.specs.Run.{Run, Turn, wake}
+use Rattle.layout.specs.Replies.{repliesBytes}
+use Rattle.layout.specs.Stored.{Stored}
+use Rattle.running.specs.Executed.{still}
+
+-- the turn's run in the state buffer, its replies over the reply buffer where own bytes already stand at the front, and the count of all
+pub record Further (t : Turn) (own : ℕ) (buffer state out : List ℕ) (count : ℕ) : Type 0 where
+  pub stored : Stored state (t .run)
+  pub bytes : out ≡ take own buffer ++ (repliesBytes (t .replies) ++ drop (length (repliesBytes (t .replies))) (drop own buffer))
+  pub number : count ≡ own + length (repliesBytes (t .replies))
+
+-- a turn of rule 7, where one is taken
+unfoldable pub woken : Run → Turn
+woken s = Option·getD (wake s) (still s)

@@ -1,0 +1,54 @@
+// Which rows of the tuples are the entries of legal tuples, for the test of a state.
+ghost use mathlib.Core.Path.{_≡_};
+ghost use Prim.Native.Nat.{_+_, _*_, _≤_, _<_};
+ghost use lib.ListN.{length};
+ghost use Rattle.basis.specs.Sizes.{mostFields, tupleSize};
+ghost use Rattle.tuples.specs.Section.{entryAt};
+ghost use Rattle.tuples.specs.Entry.{isEntry, valueIn, valuesIn, eachField};
+ghost use Rattle.wellformed.specs.Fields.{fieldOk, fieldOkAt};
+
+// Whether the value of field f of the row at index i is legal or, where the field is not used, zero.
+fn field_ok(tuples: &[u8], i: usize, f: usize, used: bool) -> bool
+    requires { ⌜ ((i + 1) * tupleSize ≤ length (now tuples)) × (f < mostFields) ⌝ }
+    ensures { λ r. ⌜ r ≡ fieldOk used (valueIn (now (tuples .entry)) i f) ⌝ }
+{
+    let kind = tuples::kind(tuples, i, f);
+    let bits = tuples::bits(tuples, i, f);
+    if used {
+        return values::legal_value(kind, bits);
+    }
+    if kind == 0 {
+        return bits == 0;
+    }
+    false
+}
+
+// Whether of the six values of the row at index i the first `count` are legal and the others zero.
+fn fields_ok(tuples: &[u8], i: usize, count: usize) -> bool
+    requires { ⌜ (i + 1) * tupleSize ≤ length (now tuples) ⌝ }
+    ensures { λ r. ⌜ r ≡ eachField (fieldOkAt count) 0 (valuesIn (now (tuples .entry)) i mostFields) ⌝ }
+{
+    let mut f = 0;
+    while f < words::MOST_FIELDS {
+        if !field_ok(tuples, i, f, f < count) {
+            return false;
+        }
+        f += 1;
+    }
+    true
+}
+
+// Whether the row at index i is that of a legal tuple: "A tuple has 1 to 6 values", "All unused bytes are zero".
+pub fn tuple_ok(tuples: &[u8], i: usize) -> bool
+    requires { ⌜ (i + 1) * tupleSize ≤ length (now tuples) ⌝ }
+    ensures { λ r. ⌜ r ≡ isEntry (entryAt (now (tuples .entry)) i) ⌝ }
+{
+    let count = tuples::field_count(tuples, i);
+    if count < 1 {
+        return false;
+    }
+    if words::MOST_FIELDS < count {
+        return false;
+    }
+    fields_ok(tuples, i, count)
+}

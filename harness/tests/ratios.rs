@@ -1,0 +1,164 @@
+//! The ratios of two files of plain output, on small ones whose ratios are worked out by hand; the rows.
+
+use harness::library::LIBRARY;
+use harness::ratios::{line, read, Ratio, Ratios};
+use harness::{rows, states};
+use reference::statement;
+use std::process::{Command, Output};
+
+/// Two turns. The least of a row's two parts may come of different turns.
+const BASE: &str = "\
+slower\t1000.00\t2000.00
+faster\t500.00\t800.00
+refused\t-\t4.00
+gone\t1.00\t2.00
+slower\t1010.00\t1900.00
+faster\t510.00\t790.00
+refused\t-\t3.00
+gone\t1.00\t2.00
+";
+const HEAD: &str = "\
+slower\t1100.00\t1995.00
+faster\t400.00\t395.00
+refused\t-\t4.90
+new\t9.00\t9.00
+slower\t1020.00\t2100.00
+faster\t501.00\t900.00
+refused\t-\t4.80
+new\t9.00\t9.00
+";
+
+fn ratios(base: &str, head: &str) -> Ratios {
+    let times = |plain| read(plain).unwrap_or_else(|fault| panic!("{fault}"));
+    Ratios::new(&times(base), &times(head))
+}
+
+#[test]
+fn least_of_all_turns_by_row() {
+    let of = |base, head| Some(Ratio { base, head });
+    let found = ratios(BASE, HEAD);
+    let expected = [
+        ("slower", [of(1000.0, 1020.0), of(1900.0, 1995.0)]),
+        ("faster", [of(500.0, 400.0), of(790.0, 395.0)]),
+        ("refused", [None, of(3.0, 4.8)]),
+    ];
+    assert_eq!(found.rows, expected.map(|(name, parts)| (name.to_string(), parts)));
+    assert_eq!(found.alone, [["gone".to_string()], ["new".to_string()]]);
+}
+
+#[test]
+fn head_over_base() {
+    assert_eq!(Ratio { base: 790.0, head: 395.0 }.value(), 0.5);
+    assert_eq!(Ratio { base: 1900.0, head: 1995.0 }.value(), 1.05);
+}
+
+/// The row "refused" is 1.6 times as slow, by 1.8 ns.
+#[test]
+fn the_worst_is_one_that_is_judged() {
+    let found = ratios(BASE, HEAD);
+    assert_eq!(found.worst(), Some(("slower", "whole call", Ratio { base: 1900.0, head: 1995.0 })));
+    assert!(!found.exceeds(1.05) && found.exceeds(1.049));
+    let found = ratios(BASE, &HEAD.replace("4.80", "5.00").replace("4.90", "5.00"));
+    assert_eq!(found.worst(), Some(("refused", "whole call", Ratio { base: 3.0, head: 5.0 })));
+    assert!(found.exceeds(1.66) && !found.exceeds(1.67));
+}
+
+#[test]
+fn a_check_of_the_state_can_be_the_worst() {
+    let found = ratios("a\t100.00\t300.00\n", "a\t120.00\t310.00\n");
+    assert_eq!(found.worst(), Some(("a", "check of state", Ratio { base: 100.0, head: 120.0 })));
+}
+
+#[test]
+fn the_table() {
+    let expected = [
+        "least ns                                               check of state                   whole call",
+        "                                                     base       head  ratio        base       head  ratio",
+        "slower                                             1000.0     1020.0  1.020      1900.0     1995.0  1.050",
+        "faster                                              500.0      400.0  0.800       790.0      395.0  0.500",
+        "refused                                                                             3.0        4.8  1.600~",
+        "only in base: gone",
+        "only in head: new",
+        "~ differs by less than 2 ns, which the clock and the place of the code in memory decide: not judged",
+        "worst ratio: 1.050, whole call of \"slower\"",
+    ];
+    let printed = ratios(BASE, HEAD).to_string();
+    assert_eq!(printed.lines().map(str::trim_end).collect::<Vec<&str>>(), expected);
+    let same = ratios(BASE, BASE).to_string();
+    assert!(same.ends_with("\nworst ratio: none, no row differs by 2 ns\n"), "{same}");
+}
+
+#[test]
+fn what_is_written_is_read() {
+    let lines = [line("a, b", [Some(1234.567), Some(2.0)]), line("c", [None, Some(0.03)])];
+    let expected = [("a, b", [Some(1234.57), Some(2.0)]), ("c", [None, Some(0.03)])];
+    assert_eq!(read(&lines.join("\n")), Ok(expected.map(|(name, parts)| (name.to_string(), parts)).to_vec()));
+}
+
+#[test]
+fn what_is_no_plain_output_is_refused() {
+    for line in [
+        "unit: a pass over 24,768 bytes",
+        "a\t1.0",
+        "a\t1.0\t2.0\t3.0",
+        "a\tx\t1.0",
+        "a\t-1\t1.0",
+        "a\t1.0\tNaN",
+    ] {
+        assert_eq!(read(line), Err(format!("not a line of plain output: {line}")));
+    }
+}
+
+/// Rows go by their names.
+#[test]
+fn names_of_rows_differ() {
+    let mut names: Vec<&str> = rows::taken().iter().chain(&rows::refused()).map(|row| row.name).collect();
+    names.sort_unstable();
+    assert!(names.windows(2).all(|pair| pair[0] != pair[1]), "{names:?}");
+}
+
+fn distinct(mut spaces: Vec<u8>) -> usize {
+    spaces.sort_unstable();
+    spaces.dedup();
+    spaces.len()
+}
+
+/// They are done: one reply with outcome 0 and no values.
+#[test]
+fn rows_of_32_spaces() {
+    let rows = rows::taken();
+    let rows: Vec<&rows::Row> = rows.iter().filter(|row| row.name.starts_with("32 spaces")).collect();
+    for row in &rows {
+        let (mut state, mut reply) = (row.states[0].clone(), vec![0; row.reply_length]);
+        assert_eq!((LIBRARY.take)(&mut state, &row.record, &mut reply), 12, "{}", row.name);
+        assert_eq!((row.states[0][11], reply[9]), (32, 0), "{}", row.name);
+    }
+    let names = |row: &&rows::Row| statement::read(&row.record[8..]).map(|read| distinct(read.spaces()));
+    assert_eq!(rows.iter().map(names).collect::<Vec<_>>(), [Some(1), Some(8), Some(12), Some(1), None, None]);
+    assert_eq!(distinct(states::spread(512).tuples.iter().map(|tuple| tuple.space).collect()), 32);
+    assert!(states::many_names().waiting.iter().all(|entry| distinct(entry.statement.spaces()) == 12));
+}
+
+/// What the program says of two files of these bytes.
+fn judged(name: &str, base: &str, head: &str, most: &[&str]) -> Output {
+    let folder = std::env::temp_dir().join(format!("ratios-{name}-{}", std::process::id()));
+    let paths = [folder.join("base"), folder.join("head")];
+    let output = std::fs::create_dir_all(&folder)
+        .and_then(|()| std::fs::write(&paths[0], base))
+        .and_then(|()| std::fs::write(&paths[1], head))
+        .and_then(|()| Command::new(env!("CARGO_BIN_EXE_ratios")).args(&paths).args(most).output());
+    let removed = std::fs::remove_dir_all(&folder);
+    assert!(removed.is_ok());
+    output.unwrap_or_else(|fault| panic!("{fault}"))
+}
+
+#[test]
+fn the_exit_status() {
+    for (most, status) in [(&[][..], 0), (&["1.05"], 0), (&["1.04"], 1), (&["0.9"], 1), (&["fast"], 2)] {
+        let output = judged("status", BASE, HEAD, most);
+        assert_eq!(output.status.code(), Some(status), "{most:?}");
+        let printed = String::from_utf8_lossy(&output.stdout);
+        assert_eq!(status == 2, printed.is_empty(), "{printed}");
+    }
+    assert_eq!(judged("none", BASE, "other\t1.0\t1.0\n", &[]).status.code(), Some(2));
+}
