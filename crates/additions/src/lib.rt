@@ -8,25 +8,10 @@ use composer::compose_begun;
 use composer::compose_branch;
 use composer::compose_operation;
 use statements::Operation;
-use words::CODE_WIDTH;
-use words::COUNT_WIDTH;
-use words::FORM_WIDTH;
-use words::MOST_BODY;
-use words::MOST_FIELDS;
-use words::SPACE_WIDTH;
-use words::VALUE;
-use words::VARIABLE_WIDTH;
+use words::WRITER_ROOM;
 use writer::Added;
 use writer::MALFORMED;
 use writer::has_bytes;
-
-// The most bytes of a field (form, variable, kind, value) and of an operation (code, two spaces, field count, fields), and
-// room for a body, an operation more and the count that follows a guard.
-const FIELD: usize = FORM_WIDTH + VARIABLE_WIDTH + VALUE;
-
-const OPERATION: usize = CODE_WIDTH + SPACE_WIDTH + SPACE_WIDTH + COUNT_WIDTH + MOST_FIELDS * FIELD;
-
-const ROOM: usize = MOST_BODY + OPERATION + COUNT_WIDTH;
 
 // Whether the filled bytes are a legal body.
 fn holds_body(buffer: &[u8], fill: usize) -> bool
@@ -48,7 +33,7 @@ pub fn begin_at(buffer: &mut [u8], host: u8, process: u16, guard: Operation) -> 
             fill: 0,
         };
     }
-    let mut t = [0u8; ROOM];
+    let mut t = [0u8; WRITER_ROOM];
     let n = compose_begun(&mut t, host, process, guard);
     settle(buffer, 0, &t[..n])
 }
@@ -69,7 +54,7 @@ pub fn operation_at(buffer: &mut [u8], fill: usize, operation: Operation) -> Add
             fill,
         };
     }
-    let mut t = [0u8; ROOM];
+    let mut t = [0u8; WRITER_ROOM];
     let n = compose_operation(&mut t, buffer, fill, operation);
     settle(buffer, fill, &t[..n])
 }
@@ -90,7 +75,7 @@ pub fn branch_at(buffer: &mut [u8], fill: usize, guard: Operation) -> Added
             fill,
         };
     }
-    let mut t = [0u8; ROOM];
+    let mut t = [0u8; WRITER_ROOM];
     let n = compose_branch(&mut t, buffer, fill, guard);
     settle(buffer, fill, &t[..n])
 }

@@ -5,7 +5,7 @@ ghost use Rattle.model.specs.Legal.{legalBody};
 ghost use Rattle.writer.specs.Writer.{writtenIs};
 ghost use Rattle.answers.specs.Settled.{refusalOf, settled};
 use bodies::body_ok;
-use words::copy_at;
+use spans::copy_at;
 use writer::Added;
 use writer::MALFORMED;
 use writer::SHORT;

@@ -15,7 +15,7 @@ use Rattle.model.specs.Writing.{valueBytes}
 use Rattle.model.specs.Matching.{Tuple, Bindings, valueOf}
 use Rattle.model.specs.Execution.{made, madeAll}
 use Rattle.words.specs.Over.{over}
-use Rattle.values.specs.Meaning.{sumOf}
+use Rattle.sums.specs.Meaning.{sumOf}
 use Rattle.statements.specs.declared.Field.{Field}
 use Rattle.statements.specs.Flat.{fieldOf, fieldIs}
 use Rattle.tuples.specs.Section.{entryBytes}

@@ -9,7 +9,7 @@ ghost use Rattle.basis.specs.Sizes.{mostFields, tupleSize};
 ghost use Rattle.model.specs.Value.{value};
 ghost use Rattle.model.specs.Matching.{valueOf, unbound, bindField, bind};
 ghost use Rattle.model.specs.Execution.{made};
-ghost use Rattle.values.specs.Meaning.{sumOf};
+ghost use Rattle.sums.specs.Meaning.{sumOf};
 ghost use Rattle.statements.specs.Flat.{fieldIs};
 ghost use Rattle.tuples.specs.Section.{tupleAt};
 ghost use Rattle.bindings.specs.Variables.{bindingsOf};
@@ -19,7 +19,7 @@ ghost use Rattle.bindings.specs.Making.{givenIs, Summable, CanMake, made
 use matching::Template;
 use statements::Field;
 use statements::Operation;
-use values::Sum;
+use sums::Sum;
 
 // The variables of a branch: those that are bound, with kind and bits of their values.
 pub struct Vars {
@@ -156,7 +156,7 @@ fn sum_value(f: Field, v: Vars, subtract: bool) -> Sought
     ensures { λ r. ⌜ givenIs (r .kind) (r .given) (r .bits) ≡ sumOf subtract (f .kind) ((valueOf (bindingsOf v) (f .variable)) .bits) (f .bits) ⌝ }
 {
     let h = held(v, f.variable);
-    match values::add(f.kind, h.bits, f.bits, subtract) {
+    match sums::add(f.kind, h.bits, f.bits, subtract) {
         Sum::Is(x) => Sought {
             kind: values::kind_of(x),
             given: true,

@@ -11,8 +11,9 @@ use borrow.Author.Tests.{lt-ltb, le-leb, lt-leb, eq-eqb, ne-eqb}
 use Rattle.basis.specs.Choice.{maybe, isSome, provided}
 use Rattle.basis.specs.Lists.{all, isEmpty}
 use Rattle.basis.specs.Numbers.{numberAt}
-use Rattle.words.specs.WordLaws.{numberAt-1, numberAt-2}
-use Rattle.basis.specs.Sizes.{mostBranches, mostBody, hosts, processes, processWidth, processAt, branchCountAt, branchesAt}
+use Rattle.basis.specs.NumberLaws.{bytes-of, numberAt-lt}
+use Rattle.words.specs.WordLaws.{numberAt-1}
+use Rattle.basis.specs.Sizes.{mostBranches, mostBody, hosts, processes, processWidth, processAt, branchCountAt, branchesAt, hostAt}
 use Rattle.model.specs.Statement.{Branch, Statement}
 use Rattle.model.specs.Legal.{legalBranch, legalStatement, parse, legalBody}
 use Rattle.model.specs.Reading.{several, wholeOf, branch}
@@ -70,11 +71,11 @@ tests a c d e z st end n q k = go z e q k
     go false false q k = no (a && c && d)
 
 pub body-legal : (b : List ℕ) → length b ≤ mostBody → branchesAt ≤ length b → ((k : ℕ) → getD b k 0 < 256)
-    → (headOk (getD b 0 0) (getD b branchCountAt 0) && endsAt (endAt (several branch (getD b branchCountAt 0)) (all legalBranch) b branchesAt) (length b)) ≡ legalBody b
+    → (headOk (getD b hostAt 0) (getD b branchCountAt 0) && endsAt (endAt (several branch (getD b branchCountAt 0)) (all legalBranch) b branchesAt) (length b)) ≡ legalBody b
 unfolding legalBody parse wholeOf endsAt isSome statementOf headOk legalStatement
 body-legal b h l bytes =
-    let p : numberAt processAt processWidth b < processes = omega (arith, numberAt-2 processAt b (omega arith), bytes processAt, bytes (processAt + 1)) in
-    rw (le-leb (length b) mostBody h, statement-one b l, numberAt-1 0 b (omega arith), end-of (several branch (getD b branchCountAt 0)) (all legalBranch) b branchesAt)
+    let p : numberAt processAt processWidth b < processes = numberAt-lt processAt processWidth b (bytes-of b bytes) in
+    rw (le-leb (length b) mostBody h, statement-one b l, numberAt-1 hostAt b (omega arith), end-of (several branch (getD b branchCountAt 0)) (all legalBranch) b branchesAt)
     (go (several branch (getD b branchCountAt 0) (drop branchesAt b)) refl p)
   where
     no : (t : Bool) → (t && false) ≡ false
@@ -82,19 +83,19 @@ body-legal b h l bytes =
     no false = refl
 
     go : (o : Option (List Branch × List ℕ)) → several branch (getD b branchCountAt 0) (drop branchesAt b) ≡ o → numberAt processAt processWidth b < processes
-        → (headOk (getD b 0 0) (getD b branchCountAt 0) && endsAt (endOf (all legalBranch) b o) (length b))
-        ≡ isSome (maybe {B = Option Statement} (maybe {B = Option Statement} (statementOf (getD b 0 0) (numberAt processAt processWidth b) o) none (λ r. provided (isEmpty (r .1)) (r .0))) none (λ st. provided (legalStatement st) st))
-    go none q p = no (headOk (getD b 0 0) (getD b branchCountAt 0))
+        → (headOk (getD b hostAt 0) (getD b branchCountAt 0) && endsAt (endOf (all legalBranch) b o) (length b))
+        ≡ isSome (maybe {B = Option Statement} (maybe {B = Option Statement} (statementOf (getD b hostAt 0) (numberAt processAt processWidth b) o) none (λ r. provided (isEmpty (r .1)) (r .0))) none (λ st. provided (legalStatement st) st))
+    go none q p = no (headOk (getD b hostAt 0) (getD b branchCountAt 0))
     go (some r) q p =
-        let st : Statement = record { host = getD b 0 0; process = numberAt processAt processWidth b; branches = r .0 } in
+        let st : Statement = record { host = getD b hostAt 0; process = numberAt processAt processWidth b; branches = r .0 } in
         let n : length (r .0) ≡ getD b branchCountAt 0 = several-length branch (getD b branchCountAt 0) (drop branchesAt b) (r .1) (r .0) q in
-        tests (ltb (getD b 0 0) hosts) (leb 1 (getD b branchCountAt 0)) (leb (getD b branchCountAt 0) mostBranches) (all legalBranch (r .0)) (isEmpty (r .1)) st (length b - length (r .1)) (length b) (at-end b (r .1) l)
+        tests (ltb (getD b hostAt 0) hosts) (leb 1 (getD b branchCountAt 0)) (leb (getD b branchCountAt 0) mostBranches) (all legalBranch (r .0)) (isEmpty (r .1)) st (length b - length (r .1)) (length b) (at-end b (r .1) l)
         (rw (n, lt-ltb (numberAt processAt processWidth b) processes p))
 
-pub body-no-head : (b : List ℕ) → length b ≤ mostBody → branchesAt ≤ length b → ((k : ℕ) → getD b k 0 < 256) → headOk (getD b 0 0) (getD b branchCountAt 0) ≡ false → false ≡ legalBody b
+pub body-no-head : (b : List ℕ) → length b ≤ mostBody → branchesAt ≤ length b → ((k : ℕ) → getD b k 0 < 256) → headOk (getD b hostAt 0) (getD b branchCountAt 0) ≡ false → false ≡ legalBody b
 body-no-head b h l bytes e = ap (λ (t : Bool). t && endsAt (endAt (several branch (getD b branchCountAt 0)) (all legalBranch) b branchesAt) (length b)) (sym e) ∙ body-legal b h l bytes
 
-pub body-branches : (b : List ℕ) → length b ≤ mostBody → branchesAt ≤ length b → ((k : ℕ) → getD b k 0 < 256) → headOk (getD b 0 0) (getD b branchCountAt 0) ≡ true
+pub body-branches : (b : List ℕ) → length b ≤ mostBody → branchesAt ≤ length b → ((k : ℕ) → getD b k 0 < 256) → headOk (getD b hostAt 0) (getD b branchCountAt 0) ≡ true
     → (r : Bool) (count : ℕ) → count ≡ getD b branchCountAt 0 → r ≡ endsAt (endAt (several branch count) (all legalBranch) b branchesAt) (length b) → r ≡ legalBody b
 body-branches b h l bytes e r count c k =
     k ∙ ap (λ (n : ℕ). endsAt (endAt (several branch n) (all legalBranch) b branchesAt) (length b)) c

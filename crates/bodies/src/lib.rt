@@ -16,6 +16,7 @@ use legality::operation_step;
 use words::BRANCH_COUNT_AT;
 use words::BRANCHES_AT;
 use words::COUNT_WIDTH;
+use words::HOST_AT;
 use words::HOSTS;
 use words::MOST_BODY;
 use words::MOST_BRANCHES;
@@ -106,7 +107,7 @@ pub fn body_ok(b: &[u8]) -> bool
     if b.len() < BRANCHES_AT {
         return false;
     }
-    if !head_legal(b[0], b[BRANCH_COUNT_AT]) {
+    if !head_legal(b[HOST_AT], b[BRANCH_COUNT_AT]) {
         return false;
     }
     branches_ok(b, size(b[BRANCH_COUNT_AT]))

@@ -3,16 +3,16 @@ use libc::STDIN_FILENO;
 use libc::STDOUT_FILENO;
 ghost use Prim.Native.Nat.{_+_, _≤_};
 ghost use lib.ListN.{length};
-ghost use Rattle.basis.specs.Sizes.{bodyAt};
+ghost use Rattle.basis.specs.Sizes.{bodyAt, mostLength};
 ghost use Rattle.io.specs.Counts.{Counts};
 
-// The longest record: its head, and a body of the greatest length that two bytes hold.
-const RECORD: usize = words::BODY_AT + 0xffff;
+// The longest record: its head and the longest body.
+const RECORD: usize = words::BODY_AT + words::MOST_LENGTH;
 
 // Reads a record into the front of the buffer, and gives its size: less than it should be where the input ends within it, 0 where it
 // has ended before.
 fn read_record(record: &mut [u8]) -> usize
-    requires { ⌜ bodyAt + 65535 ≤ length (now «record») ⌝ }
+    requires { ⌜ bodyAt + mostLength ≤ length (now «record») ⌝ }
     ensures { λ r. ⌜ Counts r (now («record» .exit)) ⌝ }
 {
     let head = io::read_full(STDIN_FILENO, &mut record[..words::BODY_AT]);
@@ -35,7 +35,7 @@ fn put_answer(text: &mut [u8], returned: u64, reply: &[u8]) -> usize
 
 // Takes one record from the stream and prints the answer. Whether the stream goes on: "3, also for a cut last record, ends it".
 fn take_one(state: &mut [u8], record: &mut [u8], reply: &mut [u8], text: &mut [u8]) -> bool
-    requires { ⌜ bodyAt + 65535 ≤ length (now «record») ⌝ }
+    requires { ⌜ bodyAt + mostLength ≤ length (now «record») ⌝ }
 {
     let n = read_record(record);
     if n == 0 {
@@ -51,7 +51,7 @@ fn take_one(state: &mut [u8], record: &mut [u8], reply: &mut [u8], text: &mut [u
 
 // Takes the records of the stream. A proved loop has to end, so its turns are counted down, from a number that no run uses up.
 fn take_all(state: &mut [u8], record: &mut [u8], reply: &mut [u8], text: &mut [u8])
-    requires { ⌜ bodyAt + 65535 ≤ length (now «record») ⌝ }
+    requires { ⌜ bodyAt + mostLength ≤ length (now «record») ⌝ }
 {
     let mut turns = u64::MAX;
     while turns > 0 && take_one(state, record, reply, text) {

@@ -13,7 +13,7 @@ use Rattle.basis.specs.Choice.{isSome}
 use Rattle.basis.specs.Logic.{and-l, and-r}
 use Rattle.basis.specs.Numbers.{bigEndian}
 use Rattle.basis.specs.NumberLaws.{bytes-take, bigEndian-length}
-use Rattle.basis.specs.Sizes.{processWidth, mostBody, mostBranches, processes, processAt, branchCountAt, branchesAt, countWidth}
+use Rattle.basis.specs.Sizes.{processWidth, mostBody, mostBranches, processes, writerRoom, hostAt, processAt, branchCountAt, branchesAt, countWidth}
 use Rattle.words.specs.Over.{over}
 use Rattle.words.specs.OverLaws.{over-split, over-length}
 use Rattle.model.specs.Statement as model
@@ -27,7 +27,6 @@ use Rattle.statements.specs.declared.Operation.{Operation}
 use Rattle.statements.specs.Flat.{operationIs}
 use Rattle.ends.specs.BodyParts.{body-parts}
 use Rattle.writer.specs.Writer.{begun, withOperation, withBranch, held}
-use Rattle.parts.specs.Room.{room}
 use Rattle.parts.specs.Puts.{Puts, puts-byte, puts-over, puts-then, puts-snoc, puts-length, puts-take}
 use Rattle.parts.specs.Operations.{PutOperation}
 use Rattle.composer.specs.Grown.{raised, raised-take, operation-bytes, branch-bytes, begun-bytes, fits-begun}
@@ -82,13 +81,13 @@ copied t e buffer fill h s =
 pub copied-at : (t e buffer : List ℕ) (fill at : ℕ) → fill ≤ length buffer → e ≡ over t 0 buffer fill → at < fill → getD e at 0 ≡ getD (take fill buffer) at 0
 copied-at t e buffer fill at h s l = sym (getD-take fill e at 0 l) ∙ ap (λ (b : List ℕ). getD b at 0) (copied t e buffer fill h s)
 
-module _ (t e buffer : List ℕ) (fill : ℕ) (o : Operation) (st : Statement) (room-is : length t ≡ room) (copy : e ≡ over t 0 buffer fill) (k : Held buffer fill st) where
-  raised-length : (at : ℕ) → length (raised e at) ≡ room
+module _ (t e buffer : List ℕ) (fill : ℕ) (o : Operation) (st : Statement) (room-is : length t ≡ writerRoom) (copy : e ≡ over t 0 buffer fill) (k : Held buffer fill st) where
+  raised-length : (at : ℕ) → length (raised e at) ≡ writerRoom
   unfolding raised
   raised-length at = length-set e at (getD e at 0 + 1) ∙ ap length copy ∙ over-length t 0 buffer fill (omega (arith, k .size)) (k .within) ∙ room-is
 
   -- bytes put after the filled ones, of which a count was raised
-  after-raised : (at : ℕ) (s f : List ℕ) (end : ℕ) → at < fill → Puts (raised e at) fill s f end → end ≤ room → take end f ≡ raised (take fill buffer) at ++ s
+  after-raised : (at : ℕ) (s f : List ℕ) (end : ℕ) → at < fill → Puts (raised e at) fill s f end → end ≤ writerRoom → take end f ≡ raised (take fill buffer) at ++ s
   after-raised at s f end h p m =
       puts-take (raised e at) fill s f end p (omega (arith, raised-length at))
       ∙ ap (λ (l : List ℕ). l ++ s) (raised-take fill e at h ∙ ap (λ (l : List ℕ). raised l at) (copied t e buffer fill (k .within) copy))
@@ -113,29 +112,29 @@ module _ (t e buffer : List ℕ) (fill : ℕ) (o : Operation) (st : Statement) (
       after-raised branchCountAt (operationBytes (operationIs o) ++ (0 ∷ [])) (set f end 0) (end + countWidth) (omega arith) more (omega (arith, p .most, k .size))
       ∙ rw (← same) (sym (branch-bytes st (operationIs o)))
 
-module _ (t e buffer : List ℕ) (fill : ℕ) (o : Operation) (room-is : length t ≡ room) (copy : e ≡ over t 0 buffer fill) (bytes : T (areBytes buffer)) (some-held : isSome (held buffer fill) ≡ true) where
+module _ (t e buffer : List ℕ) (fill : ℕ) (o : Operation) (room-is : length t ≡ writerRoom) (copy : e ≡ over t 0 buffer fill) (bytes : T (areBytes buffer)) (some-held : isSome (held buffer fill) ≡ true) where
   fill-most : fill ≤ mostBody
   fill-most = let st = held-is buffer fill some-held in held-some buffer fill (st .0) (st .1) .size
 
-  pub composed-operation : (at : ℕ) (f : List ℕ) (end : ℕ) → LastCount (take fill buffer) at → PutOperation o (raised e at) fill f end → (end ≤ room) × Composed withOperation buffer fill o (take end f)
+  pub composed-operation : (at : ℕ) (f : List ℕ) (end : ℕ) → LastCount (take fill buffer) at → PutOperation o (raised e at) fill f end → (end ≤ writerRoom) × Composed withOperation buffer fill o (take end f)
   composed-operation at f end c p = (
     omega (arith, p .most, fill-most),
     record { is = λ st q. operation-whole t e buffer fill o st room-is copy (held-some buffer fill st q) at f end bytes c p; fits = p .fits },
   )
 
-  pub composed-branch : (f : List ℕ) (end : ℕ) → PutOperation o (raised e branchCountAt) fill f end → (end + countWidth ≤ room) × Composed withBranch buffer fill o (take (end + countWidth) (set f end 0))
+  pub composed-branch : (f : List ℕ) (end : ℕ) → PutOperation o (raised e branchCountAt) fill f end → (end + countWidth ≤ writerRoom) × Composed withBranch buffer fill o (take (end + countWidth) (set f end 0))
   composed-branch f end p = (
     omega (arith, p .most, fill-most),
     record { is = λ st q. branch-whole t e buffer fill o st room-is copy (held-some buffer fill st q) f end bytes p; fits = p .fits },
   )
 
 -- host, process, one branch with a guard and no operation
-pub composed-begun : (t t₂ f : List ℕ) (h p : ℕ) (g : Operation) (end : ℕ) → length t ≡ room → h < 256 → p < processes → t₂ ≡ over (set t 0 h) processAt (bigEndian processWidth p) processWidth
-    → PutOperation g (set t₂ branchCountAt 1) branchesAt f end → (end + countWidth ≤ room) × Begun h p g (take (end + countWidth) (set f end 0))
+pub composed-begun : (t t₂ f : List ℕ) (h p : ℕ) (g : Operation) (end : ℕ) → length t ≡ writerRoom → h < 256 → p < processes → t₂ ≡ over (set t hostAt h) processAt (bigEndian processWidth p) processWidth
+    → PutOperation g (set t₂ branchCountAt 1) branchesAt f end → (end + countWidth ≤ writerRoom) × Begun h p g (take (end + countWidth) (set f end 0))
 composed-begun t t₂ f h p g end l a b s q =
     let two : List ℕ = bigEndian processWidth p in
     let ops : List ℕ = operationBytes (operationIs g) in
-    let p₂ = puts-then t 0 (h ∷ []) (set t 0 h) processAt two t₂ branchCountAt (puts-byte t 0 h (omega arith)) (puts-over (set t 0 h) processAt two processWidth t₂ (bigEndian-length processWidth p) s) (omega arith) in
+    let p₂ = puts-then t hostAt (h ∷ []) (set t hostAt h) processAt two t₂ branchCountAt (puts-byte t hostAt h (omega arith)) (puts-over (set t hostAt h) processAt two processWidth t₂ (bigEndian-length processWidth p) s) (omega arith) in
     let p₃ = puts-snoc t 0 ((h ∷ []) ++ two) t₂ branchCountAt 1 p₂ (omega arith) (puts-length t 0 ((h ∷ []) ++ two) t₂ branchCountAt p₂ (omega arith)) in
     let p₄ = puts-then t 0 (((h ∷ []) ++ two) ++ (1 ∷ [])) (set t₂ branchCountAt 1) branchesAt ops f end p₃ (q .puts) (omega arith) in
     let few : end ≤ length t = omega (arith, q .most) in

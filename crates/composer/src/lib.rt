@@ -5,25 +5,26 @@ ghost use Prim.Native.Nat.{_≤_};
 ghost use lib.ListN.{length, take};
 ghost use Rattle.basis.specs.Choice.{isSome};
 ghost use Rattle.writer.specs.Writer.{held, withOperation, withBranch};
-ghost use Rattle.parts.specs.Room.{room};
+ghost use Rattle.basis.specs.Sizes.{writerRoom};
 ghost use Rattle.writer.specs.HasBytes.{hasBytes};
 ghost use Rattle.composer.specs.Composed.{Begun, Composed};
 use ends::last_count;
 use parts::put_operation;
+use spans::copy_part;
 use statements::Operation;
 use words::BRANCH_COUNT_AT;
 use words::BRANCHES_AT;
 use words::COUNT_WIDTH;
+use words::HOST_AT;
 use words::PROCESS_AT;
-use words::copy_part;
 use words::put2;
 
 // Host, process and a branch with this guard and no operation. The count of its bytes.
 pub fn compose_begun(t: &mut [u8], host: u8, process: u16, guard: Operation) -> usize
-    requires { ⌜ (length (now t) ≡ room) × (hasBytes guard ≡ true) ⌝ }
-    ensures { λ r. ⌜ (r ≤ room) × Begun host process guard (take r (now (t .exit))) ⌝ }
+    requires { ⌜ (length (now t) ≡ writerRoom) × (hasBytes guard ≡ true) ⌝ }
+    ensures { λ r. ⌜ (r ≤ writerRoom) × Begun host process guard (take r (now (t .exit))) ⌝ }
 {
-    t[0] = host;
+    t[HOST_AT] = host;
     put2(t, PROCESS_AT, process);
     t[BRANCH_COUNT_AT] = 1;
     let end = put_operation(t, BRANCHES_AT, guard);
@@ -33,8 +34,8 @@ pub fn compose_begun(t: &mut [u8], host: u8, process: u16, guard: Operation) -> 
 
 // The filled bytes with an operation more: the last branch's operation count is raised. The count of all bytes.
 pub fn compose_operation(t: &mut [u8], buffer: &[u8], fill: usize, op: Operation) -> usize
-    requires { ⌜ (length (now t) ≡ room) × (isSome (held (now buffer) fill) ≡ true) × (hasBytes op ≡ true) ⌝ }
-    ensures { λ r. ⌜ (r ≤ room) × Composed withOperation (now (buffer .entry)) fill op (take r (now (t .exit))) ⌝ }
+    requires { ⌜ (length (now t) ≡ writerRoom) × (isSome (held (now buffer) fill) ≡ true) × (hasBytes op ≡ true) ⌝ }
+    ensures { λ r. ⌜ (r ≤ writerRoom) × Composed withOperation (now (buffer .entry)) fill op (take r (now (t .exit))) ⌝ }
 {
     copy_part(t, 0, buffer, 0, fill);
     let at = last_count(&buffer[..fill]);
@@ -44,8 +45,8 @@ pub fn compose_operation(t: &mut [u8], buffer: &[u8], fill: usize, op: Operation
 
 // The filled bytes with a branch more: the branch count is raised. The count of all bytes.
 pub fn compose_branch(t: &mut [u8], buffer: &[u8], fill: usize, guard: Operation) -> usize
-    requires { ⌜ (length (now t) ≡ room) × (isSome (held (now buffer) fill) ≡ true) × (hasBytes guard ≡ true) ⌝ }
-    ensures { λ r. ⌜ (r ≤ room) × Composed withBranch (now (buffer .entry)) fill guard (take r (now (t .exit))) ⌝ }
+    requires { ⌜ (length (now t) ≡ writerRoom) × (isSome (held (now buffer) fill) ≡ true) × (hasBytes guard ≡ true) ⌝ }
+    ensures { λ r. ⌜ (r ≤ writerRoom) × Composed withBranch (now (buffer .entry)) fill guard (take r (now (t .exit))) ⌝ }
 {
     copy_part(t, 0, buffer, 0, fill);
     t[BRANCH_COUNT_AT] = t[BRANCH_COUNT_AT] + 1;

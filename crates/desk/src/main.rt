@@ -110,7 +110,7 @@ fn take(state: &mut [u8], record: &[u8], n: usize) {
 }
 
 // "a two-byte ASCII mark, body length (2 bytes), position (4 bytes), body": a record of the first n bytes is handed in.
-fn send(state: &mut [u8], mark: &[u8; 2], position: u32, body: &[u8], n: usize) {
+fn send(state: &mut [u8], mark: &[u8; words::MARK_WIDTH], position: u32, body: &[u8], n: usize) {
     if words::MOST_BODY < n {
         return;
     }
@@ -118,10 +118,10 @@ fn send(state: &mut [u8], mark: &[u8; 2], position: u32, body: &[u8], n: usize) 
         return;
     }
     let mut record = [0u8; RECORD];
-    words::copy_at(&mut record, 0, mark);
+    spans::copy_at(&mut record, 0, mark);
     words::put2(&mut record, words::LENGTH_AT, n as u16);
     words::put4(&mut record, words::POSITION_AT, position);
-    words::copy_part(&mut record, words::BODY_AT, body, 0, n);
+    spans::copy_part(&mut record, words::BODY_AT, body, 0, n);
     take(state, &record, words::BODY_AT + n);
 }
 

@@ -7,12 +7,12 @@ use mathlib.Core.List.{List, [], _∷_, _++_, flatMap, append-nil}
 use lib.ListN.{length, getD, take, drop, set, length-append, length-drop, length-set}
 use lib.Seq.{getD-drop, take-suc, length-take-le}
 use Rattle.basis.specs.PadLaws.{Wide, flatMap-append, rows-length}
-use Rattle.basis.specs.Sizes.{bitsWidth}
+use Rattle.basis.specs.Sizes.{bitsWidth, positions, processes}
 use Rattle.words.specs.Over.{over}
 use Rattle.words.specs.OverLaws.{over-set, over-append, over-none}
 use Rattle.io.specs.Digits.{digits, Fewest}
 use Rattle.text.specs.Lines.{hexDigit, decimal, hexByte}
-use Rattle.text.specs.Written.{mostDigits}
+use Rattle.text.specs.Written.{mostDigits, byteRoom, processRoom}
 use Rattle.digits.specs.Put.{Put}
 use Rattle.digits.specs.DecimalLaws.{digits-decimal, decimal-few}
 
@@ -84,12 +84,12 @@ module _ (n k : ℕ) (text : List ℕ) (counted : k ≡ length (take k text)) (f
   pub number-put : (d e : List ℕ) (at : ℕ) → e ≡ over d at (take k text) (length (take k text)) → Put (decimal n) d e at (at + k)
   number-put d e at p = record { index = ap (λ (m : ℕ). at + m) number-length; bytes = p ∙ rw number-text }
 
--- after a mark: those of a byte are at most three, those of two bytes five
-pub part-put : (mark b x : ℕ) (d e : List ℕ) (at r : ℕ) → x ≡ b → b < 256 → Put (mark ∷ decimal x) d e at r → Put (mark ∷ decimal b) d e at r × (r ≤ at + 4)
+-- after a mark: those of a byte, and those of a process
+pub part-put : (mark b x : ℕ) (d e : List ℕ) (at r : ℕ) → x ≡ b → b < 256 → Put (mark ∷ decimal x) d e at r → Put (mark ∷ decimal b) d e at r × (r ≤ at + byteRoom)
 part-put mark b x d e at r q h p = (rw q at p, omega (arith, p .index, decimal-few 2 x (omega arith)))
 
-pub next-few : (mark n : ℕ) (d e : List ℕ) (at r : ℕ) → n < 65536 → Put (mark ∷ decimal n) d e at r → r ≤ at + 6
+pub next-few : (mark n : ℕ) (d e : List ℕ) (at r : ℕ) → n < processes → Put (mark ∷ decimal n) d e at r → r ≤ at + processRoom
 next-few mark n d e at r h p = omega (arith, p .index, decimal-few 4 n (omega arith))
 
-pub number-few : (n : ℕ) (d e : List ℕ) (at r : ℕ) → n < 4294967296 → Put (decimal n) d e at r → r ≤ at + mostDigits
+pub number-few : (n : ℕ) (d e : List ℕ) (at r : ℕ) → n < positions → Put (decimal n) d e at r → r ≤ at + mostDigits
 number-few n d e at r h p = omega (arith, p .index, decimal-few 9 n (omega arith))

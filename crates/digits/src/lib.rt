@@ -6,7 +6,7 @@ ghost use lib.ListN.{length, take, drop};
 ghost use Rattle.basis.specs.Sizes.{bitsWidth};
 ghost use Rattle.words.specs.Over.{over};
 ghost use Rattle.text.specs.Lines.{decimal, hexDigit, hexByte};
-ghost use Rattle.text.specs.Written.{mostDigits};
+ghost use Rattle.text.specs.Written.{mostDigits, byteRoom};
 ghost use Rattle.digits.specs.Put.{Put};
 
 // The greatest number of four bytes has ten digits.
@@ -48,7 +48,7 @@ pub fn put_number(out: &mut [u8], at: usize, n: u32) -> usize
 {
     let mut text = [0u8; 20];
     let k = io::decimal(n as u64, &mut text);
-    words::copy_at(out, at, &text[..k]);
+    spans::copy_at(out, at, &text[..k]);
     at + k
 }
 
@@ -65,7 +65,7 @@ pub fn put_next(out: &mut [u8], at: usize, mark: u8, n: u32) -> usize
 pub fn put_part(out: &mut [u8], at: usize, mark: u8, b: u8) -> usize
     requires { ⌜ at + 1 + mostDigits ≤ length (now out) ⌝ }
     ensures { λ r. ⌜ Put (mark ∷ decimal b) (now (out .entry)) (now (out .exit)) at r ⌝ }
-    ensures { λ r. ⌜ r ≤ at + 4 ⌝ }
+    ensures { λ r. ⌜ r ≤ at + byteRoom ⌝ }
 {
     put_next(out, at, mark, words::wide(b))
 }

@@ -17,7 +17,7 @@ fn answer_up(state: &[u8], out: &mut [u8], host: u8) -> usize
     requires { ⌜ IsStored (now state) × (replyHeaderSize + replyValueSize ≤ length (now out)) ⌝ }
     ensures { λ r. ⌜ Wrote (reply ((decode (now (state .entry))) .last) host 0 0 0 (inVariable0 (count ((decode (now (state .entry))) .up)))) (now (out .entry)) (now (out .exit)) r ⌝ }
 {
-    let up = values::hosts_up(header::hosts(state));
+    let up = hosts::hosts_up(header::hosts(state));
     let last = header::last(state);
     replies::number_reply(out, last, host, 0, up)
 }

@@ -11,7 +11,8 @@ use lib.Pow.{areBytes}
 use Rattle.basis.specs.Choice.{isSome}
 use Rattle.basis.specs.Logic.{and-l, and-r}
 use Rattle.basis.specs.Lists.{all}
-use Rattle.basis.specs.NumberLaws.{bytes-cons, bytes-drop}
+use Rattle.basis.specs.NumberLaws.{bytes-drop}
+pub use Rattle.basis.specs.NumberLaws.{bytes-of as bytes-below}
 use Rattle.basis.specs.Sizes.{mostOperations, branchCountAt, branchesAt}
 use Rattle.model.specs.Statement.{Operation, Branch, operations, Statement}
 use Rattle.model.specs.Legal.{legalBranch, legalStatement, parse, legalBody}
@@ -27,11 +28,6 @@ use Rattle.ends.specs.BodyParts.{body-parts}
 use Rattle.ends.specs.Positions.{one-branch, operation-at, branch-at}
 use Rattle.statements.specs.declared.OperationRead.{OperationRead}
 use Rattle.ends.specs.Counts.{beforeCount, before-more, countAt, legal-some}
-
--- numbers below 256 are bytes
-pub bytes-below : (l : List ℕ) → ((k : ℕ) → getD l k 0 < 256) → T (areBytes l)
-bytes-below [] h = tt
-bytes-below (a ∷ l) h = bytes-cons a l (h 0) (bytes-below l (λ k. h (suc k)))
 
 -- a legal body is some statement's
 pub body-some : (b : List ℕ) → legalBody b ≡ true → (st : Statement) × (parse b ≡ some st)

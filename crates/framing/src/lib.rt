@@ -1,4 +1,4 @@
-// The frame of a record: its mark, its length and its position. The checks 2 to 5, which ask nothing else.
+// The frame of a record: its mark, its length and its position; the checks 2 to 5, which look at no byte of a state.
 ghost use mathlib.Core.Path.{_≡_};
 ghost use mathlib.Core.Option.{some};
 ghost use Prim.Native.Nat.{_≤_};

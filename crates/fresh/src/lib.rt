@@ -9,8 +9,8 @@ pub fn fresh(state: &mut [u8]) -> u64
     if state.len() != words::STATE {
         return 1;
     }
-    words::clear(state, 0, words::STATE);
-    words::copy_at(state, 0, b"TS");
+    spans::clear(state, 0, words::STATE);
+    spans::copy_at(state, 0, b"TS");
     header::set_next(state, 1);
     header::set_space_count(state, 1);
     0

@@ -27,7 +27,8 @@ use Rattle.calls.specs.CallLaws.{numbered}
 use Rattle.replies.specs.Written.{reply, Wrote}
 use Rattle.replies.specs.TurnLaws.{one-reply, turned-one}
 use Rattle.framing.specs.FrameLaws.{record-parts}
-use Rattle.handling.specs.Answers.{Took}
+use Rattle.handling.specs.Answers.{Took, Answers}
+use Rattle.handling.specs.declared.Own.the-variants.{Refused}
 
 -- ---- the position of a record
 
@@ -148,3 +149,8 @@ handled-refused s q k buffer state out n e z t = go (firstNumber (checks s q)) e
     go : (o : Option ℕ) → k ≡ maybe o 0 (λ n. n) → Turned (maybe o (settled (effect s q)) (refused s (askingHost q) (askingProcess q))) buffer state out n
     go none e = absurd (z e)
     go (some m) e = along (refused s (askingHost q) (askingProcess q) k) (refused s (askingHost q) (askingProcess q) m) buffer state out n (ap (refused s (askingHost q) (askingProcess q)) e) t
+
+pub was-refused : (s : Run) (q : Request) (k : ℕ) (buffer state out : List ℕ) (n : ℕ) → k ≡ refusal (checks s q) → k ≢ 0
+    → Turned (refused s (askingHost q) (askingProcess q) k) buffer state out n → Answers (some q) s buffer state out (Refused n)
+unfolding refusal
+was-refused s q k buffer state out n e z t = (λ passes. z (e ∙ ap (λ (o : Option ℕ). maybe o 0 (λ n. n)) passes), handled-refused s q k buffer state out n e z t)

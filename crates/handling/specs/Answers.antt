@@ -1,5 +1,6 @@
 -- What a record has come to before rule 7. Assumes nothing.
 use mathlib.Core.Path.{_≡_}
+use mathlib.Core.Logic.{_≢_}
 use Prim.Native.Nat.{ℕ, _≤_}
 use mathlib.Core.Option.{Option, none, some}
 use mathlib.Core.List.{List}
@@ -19,7 +20,12 @@ pub record Took (o : Option Request) (s : Run) (buffer state out : List ℕ) (co
   pub turned : Turned (effect s request) buffer state out count
   pub short : count ≤ mostReply
 
--- a check refuses, 6 where nothing is asked; or all but rule 7 is done
+-- a check refuses what is asked, 6 where nothing is
+abbrev pub Refuses : Option Request → Run → Type 0
+Refuses none s = Unit {0}
+Refuses (some q) s = firstNumber (checks s q) ≢ none
+
+-- a check refuses, and the one reply says so; or all but rule 7 is done
 abbrev pub Answers : Option Request → Run → (buffer state out : List ℕ) → Own → Type 0
-Answers o s buffer state out (Refused n) = Turned (maybe o (malformed s) (handled s)) buffer state out n
+Answers o s buffer state out (Refused n) = Refuses o s × Turned (maybe o (malformed s) (handled s)) buffer state out n
 Answers o s buffer state out (Done n) = Took o s buffer state out n

@@ -1,13 +1,15 @@
--- The state buffer as a list of parts: the rows of the header, its unused bytes, and the sections. Assumes nothing.
+-- The state buffer as a list of parts: the rows of the header, its unused bytes, and the sections; a row written, a section lent. Assumes nothing.
 use Prim.Native.Nat.{ℕ, _-_}
 use mathlib.Core.List.{List, [], _∷_}
-use lib.ListN.{length}
+use lib.ListN.{length, take, drop, getD}
+use borrow.Rule.Slice.PartMut.{putMid}
 use Rattle.basis.specs.Lists.{zeros}
 use Rattle.basis.specs.Numbers.{bigEndian, mask}
 use Rattle.basis.specs.Sizes.{markWidth, positionWidth, maskWidth, countWidth, nextWidth, tupleCountWidth, headerUsed, headerSize, spaceSize, tupleSize, waitingSize, spacesSize, tuplesSize, waitingAllSize}
 use Rattle.model.specs.Run.{Run}
 use Rattle.layout.specs.States.{stateMark, spaceBytes, tupleBytes, waitingBytes, area}
-use Rattle.sections.specs.Parts.{Parts}
+use Rattle.words.specs.Over.{over}
+use Rattle.sections.specs.Parts.{placeIn, Parts}
 
 -- mark, last position, mask, monitors, next space number, counts of spaces, tuples and waiting, unused; spaces, tuples, waiting
 abbrev pub widths : List ℕ
@@ -41,6 +43,9 @@ tupleCountPart = 6
 abbrev pub waitingCountPart : ℕ
 waitingCountPart = 7
 
+abbrev pub unusedPart : ℕ
+unusedPart = 8
+
 abbrev pub spacesPart : ℕ
 spacesPart = 9
 
@@ -53,3 +58,15 @@ waitingPart = 11
 -- b is these parts
 abbrev pub Cut : List ℕ → List (List ℕ) → Type 0
 Cut b ps = Parts widths b ps
+
+-- the bytes with n in row r
+abbrev pub withRow : (r n : ℕ) → List ℕ → List ℕ
+withRow r n b = over b (placeIn widths r) (bigEndian (getD widths r 0) n) (getD widths r 0)
+
+-- section r as it is lent
+abbrev pub partAt : (r : ℕ) → List ℕ → List ℕ
+partAt r b = take (getD widths r 0) (drop (placeIn widths r) b)
+
+-- the bytes once it comes back as x
+abbrev pub withPart : (r : ℕ) → (b x : List ℕ) → List ℕ
+withPart r b x = putMid (placeIn widths r) (getD widths r 0) b x

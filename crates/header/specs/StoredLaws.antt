@@ -3,7 +3,7 @@ use mathlib.Core.Path.{_≡_, refl, sym, ap, subst, _∙_}
 use Prim.Native.Nat.{ℕ, _-_, _*_, _^_, _≤_, _<_}
 use native.Mathlib.Omega.{arith}
 use mathlib.Core.List.{List, [], _++_, map, append-assoc}
-use lib.ListN.{length, take, drop, getD, take-append-drop}
+use lib.ListN.{length, drop, getD, take-append-drop}
 use Rattle.basis.specs.Lists.{zeros, pad, pieces}
 use Rattle.basis.specs.ListLaws.{Each}
 use Rattle.basis.specs.Numbers.{bigEndian, number, numberAt, mask, bits}
@@ -20,17 +20,17 @@ use Rattle.sections.specs.Rows.{joined}
 use Rattle.sections.specs.RowLaws.{pieces-joined}
 use Rattle.sections.specs.Parts.{placeIn, part-read}
 use Rattle.sections.specs.Shapes.{Shape, entry, Holds, area-holds}
-use Rattle.header.specs.Rows.{widths, partsOf, spacesPart, tuplesPart, waitingPart}
-use Rattle.header.specs.RowLaws.{stored-parts}
+use Rattle.header.specs.Rows.{widths, partsOf, spacesPart, tuplesPart, waitingPart, partAt}
+use Rattle.header.specs.RowLaws.{stored-parts, is-stored}
 
 -- ---- a section
 
 module _ {A : Type 0} (k : Shape A) (b : List ℕ) (s : Run) (h : Stored b s) (r : ℕ) (below : r < length widths) (l : List A)
     (is : getD (partsOf s) r [] ≡ area (k .most * k .size) (k .size) (k .write) l) (few : length l ≤ k .most) (lawful : Each (k .Lawful) l) where
   -- as it is lent
-  pub part-holds : Holds k (take (getD widths r 0) (drop (placeIn widths r) b)) (length l) l
+  pub part-holds : Holds k (partAt r b) (length l) l
   part-holds =
-      let e : take (getD widths r 0) (drop (placeIn widths r) b) ≡ area (k .most * k .size) (k .size) (k .write) l = part-read widths b (partsOf s) (stored-parts b s h) r below ∙ is in
+      let e : partAt r b ≡ area (k .most * k .size) (k .size) (k .write) l = part-read widths b (partsOf s) (stored-parts b s h) r below ∙ is in
       rw e (area-holds k l few lawful)
 
   -- its items, read where it stands
@@ -55,22 +55,22 @@ Back read write size most = record { size = size; most = most; write = write; re
 
 module _ (s : Run) (f : Fit s) where
   itself : Stored (encode s) s
-  itself = record { bytes = refl; fit = f }
+  itself = is-stored (encode s) s refl f
 
   spaces-back : entries spaceRead (length (s .spaces)) spaceSize spacesAt (encode s) ≡ s .spaces
-  unfolding placeIn partsOf
+  unfolding partsOf
   spaces-back =
       part-items (Back spaceRead spaceBytes spaceSize mostSpaces) (encode s) s itself spacesPart (omega arith) (s .spaces) refl (f .spaces .few)
       (λ a m. space-back a (omega (arith, f .spaces .below a m, f .spaces .limit)) (f .spaces .owners a m))
 
   tuples-back : entries tupleRead (length (s .tuples)) tupleSize tuplesAt (encode s) ≡ s .tuples
-  unfolding placeIn partsOf
+  unfolding partsOf
   tuples-back =
       part-items (Back tupleRead tupleBytes tupleSize mostTuples) (encode s) s itself tuplesPart (omega arith) (s .tuples) refl (f .tuples .few)
       (λ t m. let k = f .tuples .each t m in tuple-back t (omega (arith, open-below (s .spaces) (s .next) (t .space) (f .spaces .below) (k .1), f .spaces .limit)) (k .0))
 
   waiting-is-back : entries waitingRead (length (s .waiting)) waitingSize waitingAt (encode s) ≡ s .waiting
-  unfolding placeIn partsOf
+  unfolding partsOf
   waiting-is-back =
       part-items (Back waitingRead waitingBytes waitingSize mostWaiting) (encode s) s itself waitingPart (omega arith) (s .waiting) refl (f .waiting .few)
       (λ w m. let q = f .waiting .each w m in waiting-back w (omega (arith, q .late, f .last)) (q .written))

@@ -2,12 +2,11 @@
 use mathlib.Core.Path.{_≡_, refl, sym, ap, _∙_}
 use Prim.Native.Nat.{ℕ, zero, suc, _+_, _-_, _*_, _^_, _≤_, _<_}
 use native.Mathlib.Omega.{arith}
-use native.Mathlib.Numerals.{add-one}
-use mathlib.Core.Bool.{Bool, true, false, _&&_}
-use mathlib.Core.List.{List, [], _∷_, _++_, map}
+use mathlib.Core.Bool.{Bool, true, false}
+use mathlib.Core.List.{List, [], _∷_, map}
 use lib.ListN.{length, take, drop, getD}
 use lib.Seq.{take-all, take-take, drop-cons}
-use lib.Dec.{T, leb, leb→le}
+use lib.Dec.{T, leb}
 use lib.Pow.{areBytes}
 use borrow.Author.Tests.{le-leb, lt-leb}
 use Rattle.basis.specs.Logic.{and-l, and-r, both, true-is}
@@ -26,8 +25,8 @@ use Rattle.words.specs.ZeroLaws.{zerosAt→zeros, zeros→zerosAt}
 use Rattle.sections.specs.Rows.{joined}
 use Rattle.sections.specs.RowLaws.{number-written}
 use Rattle.sections.specs.Shapes.{entries-length}
-use Rattle.sections.specs.Parts.{placeIn, part-read, cutFrom, total, cut-joined}
-use Rattle.header.specs.Rows.{widths, partsOf, Cut}
+use Rattle.sections.specs.Parts.{part-read, cutFrom, total, cut-joined}
+use Rattle.header.specs.Rows.{widths, unusedPart, spacesPart, tuplesPart, waitingPart, partsOf, Cut}
 use Rattle.header.specs.RowLaws.{encode-parts}
 use Rattle.header.specs.Whole.{headerLegal}
 
@@ -83,15 +82,15 @@ module _ (b : List ℕ) (long : length b ≡ stateSize) where
   says-same bytes s = encode-parts (decode b) .bytes ∙ (ap joined (says-parts bytes s) ∙ (cut-joined 0 widths b ∙ take-all stateSize b (omega arith)))
 
   pub same-says : encode (decode b) ≡ b → Says b
-  unfolding placeIn partsOf
+  unfolding partsOf
   same-says e =
       let cut : Cut b (partsOf (decode b)) = rw e at (encode-parts (decode b)) in
       record {
         mark = sym (part-read widths b (partsOf (decode b)) cut 0 (omega arith));
-        unused = sym (part-read widths b (partsOf (decode b)) cut 8 (omega arith));
-        spaces = sym (part-read widths b (partsOf (decode b)) cut 9 (omega arith));
-        tuples = sym (part-read widths b (partsOf (decode b)) cut 10 (omega arith));
-        waiting = sym (part-read widths b (partsOf (decode b)) cut 11 (omega arith));
+        unused = sym (part-read widths b (partsOf (decode b)) cut unusedPart (omega arith));
+        spaces = sym (part-read widths b (partsOf (decode b)) cut spacesPart (omega arith));
+        tuples = sym (part-read widths b (partsOf (decode b)) cut tuplesPart (omega arith));
+        waiting = sym (part-read widths b (partsOf (decode b)) cut waitingPart (omega arith));
       }
 
 -- ---- what the tests of the header show

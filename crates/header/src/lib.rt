@@ -3,11 +3,11 @@
 ghost use mathlib.Core.Path.{_≡_};
 ghost use Prim.Native.Nat.{_≤_, _<_};
 ghost use lib.ListN.{length};
-ghost use Rattle.basis.specs.Numbers.{bigEndian, numberAt, bits};
+ghost use Rattle.basis.specs.Numbers.{numberAt, bits};
 ghost use Rattle.basis.specs.Sizes.{positionWidth, maskWidth, countWidth, nextWidth, tupleCountWidth, hosts, mostMonitors, mostSpaces, mostTuples, mostWaiting, lastAt, maskAt, monitorsAt, nextAt, spaceCountAt, tupleCountAt, waitingCountAt, headerSize};
 ghost use Rattle.model.specs.Valid.{countsFit};
 ghost use Rattle.layout.specs.States.{decode};
-ghost use Rattle.words.specs.Over.{over};
+ghost use Rattle.header.specs.Rows.{lastPart, maskPart, monitorsPart, nextPart, spaceCountPart, tupleCountPart, waitingCountPart, withRow};
 ghost use Rattle.header.specs.Whole.{headerLegal};
 
 // "last position taken (4)".
@@ -20,7 +20,7 @@ pub fn last(state: &[u8]) -> u32
 
 pub fn set_last(state: &mut [u8], position: u32)
     requires { ⌜ headerSize ≤ length (now state) ⌝ }
-    ensures { λ _. ⌜ now (state .exit) ≡ over (now (state .entry)) lastAt (bigEndian positionWidth position) positionWidth ⌝ }
+    ensures { λ _. ⌜ now (state .exit) ≡ withRow lastPart position (now (state .entry)) ⌝ }
 {
     words::put_number(state, words::LAST_AT, words::POSITION_WIDTH, position);
 }
@@ -35,7 +35,7 @@ pub fn hosts(state: &[u8]) -> u16
 
 pub fn set_hosts(state: &mut [u8], mask: u16)
     requires { ⌜ headerSize ≤ length (now state) ⌝ }
-    ensures { λ _. ⌜ now (state .exit) ≡ over (now (state .entry)) maskAt (bigEndian maskWidth mask) maskWidth ⌝ }
+    ensures { λ _. ⌜ now (state .exit) ≡ withRow maskPart mask (now (state .entry)) ⌝ }
 {
     words::put_number(state, words::MASK_AT, words::MASK_WIDTH, mask as u32);
 }
@@ -50,7 +50,7 @@ pub fn monitors(state: &[u8]) -> usize
 
 pub fn set_monitors(state: &mut [u8], n: usize)
     requires { ⌜ (headerSize ≤ length (now state)) × (n ≤ mostMonitors) ⌝ }
-    ensures { λ _. ⌜ now (state .exit) ≡ over (now (state .entry)) monitorsAt (bigEndian countWidth n) countWidth ⌝ }
+    ensures { λ _. ⌜ now (state .exit) ≡ withRow monitorsPart n (now (state .entry)) ⌝ }
 {
     words::put_number(state, words::MONITORS_AT, words::COUNT_WIDTH, n as u32);
 }
@@ -65,7 +65,7 @@ pub fn next(state: &[u8]) -> u32
 
 pub fn set_next(state: &mut [u8], number: u32)
     requires { ⌜ headerSize ≤ length (now state) ⌝ }
-    ensures { λ _. ⌜ now (state .exit) ≡ over (now (state .entry)) nextAt (bigEndian nextWidth number) nextWidth ⌝ }
+    ensures { λ _. ⌜ now (state .exit) ≡ withRow nextPart number (now (state .entry)) ⌝ }
 {
     words::put_number(state, words::NEXT_AT, words::NEXT_WIDTH, number);
 }
@@ -80,7 +80,7 @@ pub fn space_count(state: &[u8]) -> usize
 
 pub fn set_space_count(state: &mut [u8], n: usize)
     requires { ⌜ (headerSize ≤ length (now state)) × (n ≤ mostSpaces) ⌝ }
-    ensures { λ _. ⌜ now (state .exit) ≡ over (now (state .entry)) spaceCountAt (bigEndian countWidth n) countWidth ⌝ }
+    ensures { λ _. ⌜ now (state .exit) ≡ withRow spaceCountPart n (now (state .entry)) ⌝ }
 {
     words::put_number(state, words::SPACE_COUNT_AT, words::COUNT_WIDTH, n as u32);
 }
@@ -95,7 +95,7 @@ pub fn tuple_count(state: &[u8]) -> usize
 
 pub fn set_tuple_count(state: &mut [u8], n: usize)
     requires { ⌜ (headerSize ≤ length (now state)) × (n ≤ mostTuples) ⌝ }
-    ensures { λ _. ⌜ now (state .exit) ≡ over (now (state .entry)) tupleCountAt (bigEndian tupleCountWidth n) tupleCountWidth ⌝ }
+    ensures { λ _. ⌜ now (state .exit) ≡ withRow tupleCountPart n (now (state .entry)) ⌝ }
 {
     words::put_number(
         state,
@@ -115,7 +115,7 @@ pub fn waiting_count(state: &[u8]) -> usize
 
 pub fn set_waiting_count(state: &mut [u8], n: usize)
     requires { ⌜ (headerSize ≤ length (now state)) × (n ≤ mostWaiting) ⌝ }
-    ensures { λ _. ⌜ now (state .exit) ≡ over (now (state .entry)) waitingCountAt (bigEndian countWidth n) countWidth ⌝ }
+    ensures { λ _. ⌜ now (state .exit) ≡ withRow waitingCountPart n (now (state .entry)) ⌝ }
 {
     words::put_number(state, words::WAITING_COUNT_AT, words::COUNT_WIDTH, n as u32);
 }
@@ -150,7 +150,7 @@ pub fn is_legal(state: &[u8]) -> bool
     if !words::has_mark(state, b"TS") {
         return false;
     }
-    if !words::zero_run(
+    if !spans::zero_run(
         state,
         words::HEADER_USED,
         words::HEADER - words::HEADER_USED,

@@ -1,19 +1,19 @@
 -- The body of a waiting statement, as it is lent out of the section. Assumes nothing.
 use mathlib.Core.Path.{_≡_}
-use Prim.Native.Nat.{ℕ, _+_, _-_, _*_, _≤_, _<_}
+use Prim.Native.Nat.{ℕ, _+_, _-_, _≤_, _<_}
 use native.Mathlib.Omega.{arith}
 use mathlib.Core.Option.{some}
 use mathlib.Core.List.{List}
 use lib.ListN.{length, take, drop}
 use lib.Dec.{T}
 use Rattle.basis.specs.Choice.{isSome}
-use Rattle.basis.specs.Sizes.{mostBody, waitingBodyAt, waitingSize}
+use Rattle.basis.specs.Sizes.{mostBody}
 use Rattle.model.specs.Statement.{Statement}
 use Rattle.model.specs.Legal.{parse, legalBody}
 use Rattle.layout.specs.Stored.{statementOf, statement-of}
 use Rattle.sections.specs.Shapes.{holds-length}
 use Rattle.queue.specs.Queue.{waitingShape, waitingOf, IsQueued}
-use Rattle.queue.specs.PlaceLaws.{waitingNth, bodySize, bodyOf, stands}
+use Rattle.queue.specs.PlaceLaws.{waitingNth, rowEnd, bodyAt, bodySize, bodyOf, stands}
 
 legal-of : (b : List ℕ) (st : Statement) → parse b ≡ some st → T (legalBody b)
 unfolding legalBody isSome
@@ -21,7 +21,7 @@ legal-of b st e = rw e tt
 
 module _ (p : List ℕ) (n i : ℕ) (h : IsQueued p n) (below : i < n) where
   -- its row stands within the section
-  pub row-within : (i + 1) * waitingSize ≤ length p
+  pub row-within : rowEnd i ≤ length p
   row-within = omega (arith, holds-length waitingShape p n (waitingOf p n) h, h .few)
 
   pub bytes-legal : T (legalBody (bodyOf p i))
@@ -31,7 +31,7 @@ module _ (p : List ℕ) (n i : ℕ) (h : IsQueued p n) (below : i < n) where
   bytes-statement = statement-of (bodyOf p i) ((waitingNth p n i) .statement) (stands p n i h below .parsed)
 
   -- the part that is lent
-  module _ (size from : ℕ) (e : size ≡ bodySize p i) (f : from ≡ i * waitingSize + waitingBodyAt) where
+  module _ (size from : ℕ) (e : size ≡ bodySize p i) (f : from ≡ bodyAt i) where
     pub body-small : size ≤ mostBody
     body-small = omega (arith, e, stands p n i h below .size)
 

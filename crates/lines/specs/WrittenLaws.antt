@@ -7,11 +7,11 @@ use lib.ListN.{length, getD, take, drop, set, length-drop}
 use lib.Seq.{getD-drop, drop-drop}
 use borrow.Author.Tests.{le-leb, lt-leb}
 use Rattle.basis.specs.Numbers.{number, numberAt}
-use Rattle.basis.specs.Sizes.{positionWidth, processWidth, bitsWidth, replyPositionAt, replyHostAt, replyProcessAt, replyOutcomeAt, replyBranchAt, replyCountAt, replyHeaderSize, replyKindAt, replyBitsAt, replyValueSize}
+use Rattle.basis.specs.Sizes.{positionWidth, processWidth, bitsWidth, positions, replyPositionAt, replyHostAt, replyProcessAt, replyOutcomeAt, replyBranchAt, replyCountAt, replyHeaderSize, replyKindAt, replyBitsAt, replyValueSize}
 use Rattle.words.specs.Over.{over}
 use Rattle.words.specs.OverLaws.{over-none, over-length}
 use Rattle.text.specs.Lines.{codes, space, colon, newline, decimal, refusedLine}
-use Rattle.text.specs.Written.{valueIn, valuesIn, sourceIn, headIn, lineIn, sizeAt, valueRoom, mostDigits, refusedAt, refusedRoom}
+use Rattle.text.specs.Written.{valueIn, valuesIn, sourceIn, headIn, lineIn, sizeAt, valueRoom, byteRoom, mostDigits, refusedAt, refusedRoom}
 use Rattle.text.specs.ReadLaws.{values-more}
 use Rattle.digits.specs.Put.{Put}
 use Rattle.digits.specs.PutLaws.{put-one, put-then, hexBytes, hex-length, number-few}
@@ -27,7 +27,7 @@ unfolding numberAt
 number-front l from k w = ap (λ (r : List ℕ). number (take w r)) (drop-drop k from l)
 
 -- "variable:kind:eight capital hexadecimal digits"
-pub value-put : (l d e f g : List ℕ) (from at a b : ℕ) → from + replyValueSize ≤ length l → at + valueRoom ≤ length d → length e ≡ length d → length f ≡ length d → a ≤ at + 4 → b ≤ a + 4
+pub value-put : (l d e f g : List ℕ) (from at a b : ℕ) → from + replyValueSize ≤ length l → at + valueRoom ≤ length d → length e ≡ length d → length f ≡ length d → a ≤ at + byteRoom → b ≤ a + byteRoom
     → Put (space ∷ decimal (getD l from 0)) d e at a → Put (colon ∷ decimal (getD l (from + replyKindAt) 0)) e f a b
     → g ≡ over (set f b colon) (b + 1) (hexBytes bitsWidth (drop (from + replyBitsAt) l)) (2 * bitsWidth) → Put (valueIn (drop from l)) d g at (b + 1 + 2 * bitsWidth)
 unfolding valueIn
@@ -84,7 +84,7 @@ line-put l d e f from count at a b ha hb hc n p q =
     (put-then (headIn (drop from l)) (values ++ (newline ∷ [])) d e (set f b newline) at a (b + 1) ha p (put-then values (newline ∷ []) e f (set f b newline) a b (b + 1) hc q (put-one f b newline hb)))
 
 -- "`refused n`"
-pub refused-put : (d e f : List ℕ) (n r : ℕ) → refusedRoom ≤ length d → length f ≡ length d → n < 4294967296
+pub refused-put : (d e f : List ℕ) (n r : ℕ) → refusedRoom ≤ length d → length f ≡ length d → n < positions
     → e ≡ over d 0 (codes "refused ") refusedAt → Put (decimal n) e f refusedAt r → Put (refusedLine n) d (set f r newline) 0 (r + 1)
 unfolding refusedLine codes
 refused-put d e f n r room l small p q =

@@ -7,7 +7,7 @@ ghost use Rattle.basis.specs.Sizes.{replyHeaderSize, replyValueSize};
 ghost use Rattle.model.specs.Run.{Reply};
 ghost use Rattle.io.specs.Counts.{Counts};
 ghost use Rattle.text.specs.Lines.{linesOf, refusedLine};
-ghost use Rattle.text.specs.Written.{valueIn, valuesIn, sourceIn, headIn, lineIn, spanAt, sizeAt, growth, valueRoom, headRoom, refusedRoom, Given};
+ghost use Rattle.text.specs.Written.{valueIn, valuesIn, sourceIn, headIn, lineIn, spanAt, sizeAt, growth, valueRoom, headRoom, sourceRoom, refusedRoom, Given};
 ghost use Rattle.digits.specs.Put.{Put};
 
 // A line is at most three times as long as its reply.
@@ -55,7 +55,7 @@ fn put_values(out: &mut [u8], at: usize, replies: &[u8], from: usize, count: usi
 fn put_source(out: &mut [u8], at: usize, replies: &[u8], from: usize) -> usize
     requires { ⌜ (at + headRoom ≤ length (now out)) × (from + replyHeaderSize ≤ length (now replies)) ⌝ }
     ensures { λ r. ⌜ Put (sourceIn (drop from (now (replies .entry)))) (now (out .entry)) (now (out .exit)) at r ⌝ }
-    ensures { λ r. ⌜ r ≤ at + 20 ⌝ }
+    ensures { λ r. ⌜ r ≤ at + sourceRoom ⌝ }
 {
     let host_at = digits::put_number(
         out,
@@ -162,7 +162,7 @@ pub fn refused(n: u32, out: &mut [u8]) -> usize
     if out.len() < REFUSED {
         return 0;
     }
-    words::copy_at(out, 0, b"refused ");
+    spans::copy_at(out, 0, b"refused ");
     let end = digits::put_number(out, REFUSED_AT, n);
     out[end] = b'\n';
     end + 1

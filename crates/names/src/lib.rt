@@ -10,6 +10,7 @@ ghost use Rattle.spaces.specs.Spaces.{spacesOf, IsListed, Rising};
 ghost use Rattle.names.specs.Asks.{asks};
 ghost use Rattle.names.specs.Walk.{passOperation, passCounted, passBranch};
 use statements::Operation;
+use statements::TWO_SPACES;
 use statements::read_operation;
 
 // What is asked of a space: that it is not open, not open to a process, or that of a number.
@@ -44,7 +45,7 @@ fn operation_names(operation: Operation, spaces: &[u8], n: usize, what: Asked) -
     if is_asked(spaces, n, what, operation.from) {
         return true;
     }
-    if operation.code < 6 {
+    if operation.code < TWO_SPACES {
         return false;
     }
     is_asked(spaces, n, what, operation.to)

@@ -1,14 +1,12 @@
--- The search for the oldest waiting statement with a guard that holds. Assumes nothing.
+-- The search for the oldest waiting statement with a guard that holds, and that there is none. Assumes nothing.
 use mathlib.Core.Path.{_≡_, refl, sym, ap, _∙_}
-use Prim.Native.Nat.{ℕ, _+_, _≤_, _<_}
-use native.Mathlib.Omega.{arith}
-use native.Mathlib.Numerals.{add-one}
-use mathlib.Core.Bool.{Bool, true, false}
+use Prim.Native.Nat.{ℕ, suc, _≤_, _<_}
+use mathlib.Core.Bool.{Bool, true, false, not, cond, _&&_}
 use mathlib.Core.Option.{Option, none, some}
-use mathlib.Core.List.{List, _∷_}
-use lib.ListN.{length, drop, getD, drop-of-length-le}
-use lib.Seq.{drop-cons}
-use Rattle.basis.specs.Lists.{Found, first, firstFrom}
+use mathlib.Core.List.{List, [], _∷_}
+use lib.ListN.{length, getD}
+use Rattle.basis.specs.Lists.{all, Found, first, firstFrom}
+use Rattle.basis.specs.RestLaws.{Passed, passed-none, first-here, first-end}
 use Rattle.model.specs.Matching.{Tuple}
 use Rattle.model.specs.Execution.{ready}
 use Rattle.model.specs.Run.{Waiting}
@@ -20,36 +18,50 @@ use Rattle.oldest.specs.declared.Oldest.the-variants.{At, Nobody}
 abbrev pub readyIn : List Tuple → Waiting → Bool
 readyIn ts w = ready ts (w .statement)
 
+-- "no guard that holds"
+abbrev pub unready : List Tuple → Waiting → Bool
+unready ts w = not (readyIn ts w)
+
 -- the index of the one that is found; nobody, where none is
 unfoldable pub oldestOf : Option (Found Waiting) → Oldest
 oldestOf none = Nobody
 oldestOf (some f) = At (f .index)
 
 -- i are passed, and none of them is the one
-pub record Searching (q : Waiting → Bool) (l : List Waiting) (i : ℕ) : Type 0 where
-  pub within : i ≤ length l
-  pub rest : first q l ≡ firstFrom q i (drop i l)
+abbrev pub Searching : (Waiting → Bool) → List Waiting → ℕ → Type 0
+Searching q l i = Passed (first q l) (firstFrom q i) l i
 
-pub searching-start : (q : Waiting → Bool) (l : List Waiting) → Searching q l 0
-unfolding first
-searching-start q l = record { within = omega arith; rest = refl }
+module _ (q : Waiting → Bool) (l : List Waiting) where
+  pub searching-start : Searching q l 0
+  unfolding first
+  searching-start = passed-none refl
 
-module _ (q : Waiting → Bool) (l : List Waiting) (i : ℕ) (u : Searching q l i) where
-  from-here : i < length l → drop i l ≡ getD l i noWaiting ∷ drop (i + 1) l
-  from-here below = drop-cons l i noWaiting below ∙ rw (add-one i)
+  module _ (i : ℕ) (u : Searching q l i) where
+    pub search-hit : i < length l → q (getD l i noWaiting) ≡ true → At i ≡ oldestOf (first q l)
+    unfolding oldestOf
+    search-hit below t = sym (ap oldestOf (first-here q u noWaiting below t))
 
-  pub search-hit : i < length l → q (getD l i noWaiting) ≡ true → At i ≡ oldestOf (first q l)
-  unfolding firstFrom oldestOf
-  search-hit below t =
-      let hit : firstFrom q i (drop i l) ≡ some (record { index = i; item = getD l i noWaiting }) = rw (from-here below, t) in
-      sym (ap oldestOf (u .rest ∙ hit))
+    pub search-end : length l ≤ i → Nobody ≡ oldestOf (first q l)
+    unfolding oldestOf
+    search-end past = sym (ap oldestOf (first-end q u past))
 
-  pub search-miss : i < length l → q (getD l i noWaiting) ≡ false → Searching q l (i + 1)
-  unfolding firstFrom
-  search-miss below f = record { within = omega arith; rest = u .rest ∙ rw (from-here below, f, add-one i) }
+-- ---- nobody is found
 
-  pub search-end : length l ≤ i → Nobody ≡ oldestOf (first q l)
-  unfolding firstFrom oldestOf
-  search-end past =
-      let miss : firstFrom q i (drop i l) ≡ none = rw (drop-of-length-le l {i = i} past) in
-      sym (ap oldestOf (u .rest ∙ miss))
+unfoldable pub isNobody : Oldest → Bool
+isNobody (At i) = false
+isNobody Nobody = true
+
+module _ (ts : List Tuple) where
+  none-from : (i : ℕ) (l : List Waiting) → isNobody (oldestOf (firstFrom (readyIn ts) i l)) ≡ all (unready ts) l
+  unfolding firstFrom all oldestOf isNobody
+  none-from i [] = refl
+  none-from i (w ∷ l) = go (readyIn ts w) (none-from (suc i) l)
+    where
+      go : (b : Bool) → isNobody (oldestOf (firstFrom (readyIn ts) (suc i) l)) ≡ all (unready ts) l
+          → isNobody (oldestOf (cond b (some (record { index = i; item = w })) (firstFrom (readyIn ts) (suc i) l))) ≡ (not b && all (unready ts) l)
+      go true e = refl
+      go false e = e
+
+  pub nobody-ready : (l : List Waiting) (r : Oldest) → r ≡ oldestOf (first (readyIn ts) l) → isNobody r ≡ all (unready ts) l
+  unfolding first
+  nobody-ready l r e = ap isNobody e ∙ none-from 0 l

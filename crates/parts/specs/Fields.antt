@@ -9,7 +9,7 @@ use lib.Seq.{take-suc}
 use Rattle.basis.specs.ListLaws.{Each, each-nil, each-cons, each-append}
 use Rattle.basis.specs.Numbers.{bigEndian}
 use Rattle.basis.specs.NumberLaws.{bigEndian-length}
-use Rattle.basis.specs.Sizes.{bitsWidth, valueSize, mostFields, formWidth, kindWidth, variableWidth, valueBitsAt}
+use Rattle.basis.specs.Sizes.{bitsWidth, valueSize, mostFields, formWidth, valueBitsAt, pastKind, pastVariable, formalSize, referenceSize, sumSize, anonymousSize, fieldsSize}
 use Rattle.words.specs.Over.{over}
 use Rattle.model.specs.Value.{value}
 use Rattle.model.specs.Statement as model
@@ -18,7 +18,6 @@ use Rattle.model.specs.Writing.{valueBytes, fieldBytes}
 use Rattle.model.specs.RoundTrip.{FitsField}
 use Rattle.statements.specs.declared.Field.{Field}
 use Rattle.statements.specs.Flat.{forms, fieldOf, fieldIs, fieldsAre}
-use Rattle.parts.specs.Room.{mostFieldSize, fieldsRoom}
 use Rattle.parts.specs.Puts.{Puts, puts-none, puts-byte, puts-over, puts-then, puts-as, puts-two, puts-three}
 
 -- ---- things one after the other
@@ -53,8 +52,8 @@ pub record PutField (f : Field) (before : List ℕ) (at : ℕ) (after : List ℕ
   pub puts : Puts before at (fieldBytes (fieldIs f)) after end
   pub fits : FitsField (fieldIs f)
 
--- every field has at most so many bytes
-pub field-most : (f : model.Field) → length (fieldBytes f) ≤ mostFieldSize
+-- no field is longer than a sum
+pub field-most : (f : model.Field) → length (fieldBytes f) ≤ sumSize
 unfolding fieldBytes
 field-most (actual v) = omega (arith, value-length (v .kind) (v .bits))
 field-most (formal k x) = omega arith
@@ -83,7 +82,7 @@ sum-bytes (suc (suc (suc zero))) k x n l h = refl
 sum-bytes (suc (suc (suc (suc zero)))) k x n l h = refl
 sum-bytes (suc (suc (suc (suc (suc form))))) k x n l h = absurd (omega arith)
 
-module _ (f : Field) (d : List ℕ) (at : ℕ) (h : at + mostFieldSize ≤ length d) (small : f .bits < 256 ^ bitsWidth) where
+module _ (f : Field) (d : List ℕ) (at : ℕ) (h : at + sumSize ≤ length d) (small : f .bits < 256 ^ bitsWidth) where
   abbrev fieldValue : List ℕ
   fieldValue = valueBytes (value (f .kind) (f .bits))
 
@@ -96,25 +95,25 @@ module _ (f : Field) (d : List ℕ) (at : ℕ) (h : at + mostFieldSize ≤ lengt
   unfolding fieldIs fieldOf fieldBytes
   put-actual e end z p = is-put (f .form ∷ fieldValue) e end (puts-then d at (f .form ∷ []) _ (at + formWidth) fieldValue e end (puts-byte d at (f .form) (omega arith)) p (omega arith)) (rw z)
 
-  pub put-formal : f .form ≡ 1 → PutField f d at (set (set (set d at (f .form)) (at + formWidth) (f .kind)) (at + (formWidth + kindWidth)) (f .variable)) (at + (formWidth + kindWidth + variableWidth))
+  pub put-formal : f .form ≡ 1 → PutField f d at (set (set (set d at (f .form)) (at + formWidth) (f .kind)) (at + pastKind) (f .variable)) (at + formalSize)
   unfolding fieldIs fieldOf fieldBytes
-  put-formal z = is-put (f .form ∷ f .kind ∷ f .variable ∷ []) _ (at + (formWidth + kindWidth + variableWidth)) (puts-three d at (f .form) (f .kind) (f .variable) (omega arith)) (rw z)
+  put-formal z = is-put (f .form ∷ f .kind ∷ f .variable ∷ []) _ (at + formalSize) (puts-three d at (f .form) (f .kind) (f .variable) (omega arith)) (rw z)
 
-  pub put-reference : f .form ≡ 2 → PutField f d at (set (set d at (f .form)) (at + formWidth) (f .variable)) (at + (formWidth + variableWidth))
+  pub put-reference : f .form ≡ 2 → PutField f d at (set (set d at (f .form)) (at + formWidth) (f .variable)) (at + referenceSize)
   unfolding fieldIs fieldOf fieldBytes
-  put-reference z = is-put (f .form ∷ f .variable ∷ []) _ (at + (formWidth + variableWidth)) (puts-two d at (f .form) (f .variable) (omega arith)) (rw z)
+  put-reference z = is-put (f .form ∷ f .variable ∷ []) _ (at + referenceSize) (puts-two d at (f .form) (f .variable) (omega arith)) (rw z)
 
-  pub put-sum : (e : List ℕ) (end : ℕ) → 3 ≤ f .form → f .form < 5 → Puts (set (set d at (f .form)) (at + formWidth) (f .variable)) (at + (formWidth + variableWidth)) fieldValue e end → PutField f d at e end
+  pub put-sum : (e : List ℕ) (end : ℕ) → 3 ≤ f .form → f .form < 5 → Puts (set (set d at (f .form)) (at + formWidth) (f .variable)) (at + pastVariable) fieldValue e end → PutField f d at e end
   unfolding fieldIs
   put-sum e end l u p =
-      is-put (f .form ∷ f .variable ∷ fieldValue) e end (puts-then d at (f .form ∷ f .variable ∷ []) _ (at + (formWidth + variableWidth)) fieldValue e end (puts-two d at (f .form) (f .variable) (omega arith)) p (omega arith))
+      is-put (f .form ∷ f .variable ∷ fieldValue) e end (puts-then d at (f .form ∷ f .variable ∷ []) _ (at + pastVariable) fieldValue e end (puts-two d at (f .form) (f .variable) (omega arith)) p (omega arith))
       (sym (sum-bytes (f .form) (f .kind) (f .variable) (f .bits) l u))
 
-  pub put-anonymous : 5 ≤ f .form → f .form < forms → PutField f d at (set (set d at (f .form)) (at + formWidth) (f .kind)) (at + (formWidth + kindWidth))
+  pub put-anonymous : 5 ≤ f .form → f .form < forms → PutField f d at (set (set d at (f .form)) (at + formWidth) (f .kind)) (at + anonymousSize)
   unfolding fieldIs fieldOf fieldBytes
   put-anonymous l u =
       let z : f .form ≡ 5 = omega arith in
-      is-put (f .form ∷ f .kind ∷ []) _ (at + (formWidth + kindWidth)) (puts-two d at (f .form) (f .kind) (omega arith)) (rw z)
+      is-put (f .form ∷ f .kind ∷ []) _ (at + anonymousSize) (puts-two d at (f .form) (f .kind) (omega arith)) (rw z)
 
 -- ---- fields one after the other
 
@@ -145,13 +144,13 @@ fields-more fields i x d at e m f end h k p q =
 -- i fields are put
 pub record Putting (fields : List Field) (before : List ℕ) (at : ℕ) (after : List ℕ) (end i : ℕ) : Type 0 where
   pub same : length after ≡ length before
-  pub most : end ≤ at + i * mostFieldSize
+  pub most : end ≤ at + i * sumSize
   pub put : PutFields (take i fields) before at after end
 
 pub putting-start : (fields : List Field) (d : List ℕ) (at : ℕ) → Putting fields d at d at 0
 putting-start fields d at = record { same = refl; most = omega arith; put = fields-none fields d at }
 
-pub putting-turn : (fields : List Field) (d : List ℕ) (at : ℕ) (e : List ℕ) (m i : ℕ) (x : Field) (f : List ℕ) (end : ℕ) → at + fieldsRoom ≤ length d → length fields ≡ mostFields → i < mostFields
+pub putting-turn : (fields : List Field) (d : List ℕ) (at : ℕ) (e : List ℕ) (m i : ℕ) (x : Field) (f : List ℕ) (end : ℕ) → at + fieldsSize ≤ length d → length fields ≡ mostFields → i < mostFields
     → length f ≡ length e → Putting fields d at e m i → PutField (getD fields i x) e m f end → Putting fields d at f end (i + 1)
 putting-turn fields d at e m i x f end room six h l p q = record {
   same = l ∙ p .same;
@@ -160,7 +159,7 @@ putting-turn fields d at e m i x f end room six h l p q = record {
 }
 
 -- they have at most so many bytes
-pub fields-most : (fs : List Field) → length (flatMap fieldBytes (fieldsAre fs)) ≤ length fs * mostFieldSize
+pub fields-most : (fs : List Field) → length (flatMap fieldBytes (fieldsAre fs)) ≤ length fs * sumSize
 unfolding fieldsAre flatMap
 fields-most [] = omega arith
 fields-most (f ∷ fs) = omega (arith, length-append (fieldBytes (fieldIs f)) (flatMap fieldBytes (fieldsAre fs)), field-most (fieldIs f), fields-most fs)

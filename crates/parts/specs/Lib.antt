@@ -1,4 +1,3 @@
 pub mod Fields
 pub mod Operations
 pub mod Puts
-pub mod Room

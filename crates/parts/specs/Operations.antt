@@ -9,7 +9,7 @@ use Rattle.basis.specs.Lists.{all}
 use Rattle.basis.specs.ListLaws.{Each, each-nil, all-at}
 use Rattle.basis.specs.Numbers.{bigEndian}
 use Rattle.basis.specs.NumberLaws.{bigEndian-length}
-use Rattle.basis.specs.Sizes.{spaceWidth, mostFields, codeWidth, countWidth}
+use Rattle.basis.specs.Sizes.{hostWidth, spaceWidth, mostFields, codeWidth, countWidth, fromAt, toAt, pastTo, fieldsSize, operationSize}
 use Rattle.words.specs.Over.{over}
 use Rattle.model.specs.Statement as model
 use Rattle.model.specs.Statement.{spacesOf}
@@ -21,7 +21,6 @@ use Rattle.statements.specs.declared.Operation.{Operation}
 use Rattle.statements.specs.Flat.{codes, fieldIs, fieldsAre, operationOf, operationIs}
 use Rattle.statements.specs.Operations.{fields-of}
 use Rattle.writer.specs.Writer.{trueCode, twoSpaces}
-use Rattle.parts.specs.Room.{fieldsRoom, spacesRoom, mostOperationSize}
 use Rattle.parts.specs.Puts.{Puts, puts-byte, puts-over, puts-then, puts-as}
 use Rattle.parts.specs.Fields.{PutFields, fields-most}
 use Rattle.writer.specs.HasBytes.{HasParts}
@@ -65,8 +64,8 @@ bytes-two (suc (suc (suc (suc (suc (suc zero)))))) from to fs l h = refl
 bytes-two (suc (suc (suc (suc (suc (suc (suc zero))))))) from to fs l h = refl
 bytes-two (suc (suc (suc (suc (suc (suc (suc (suc n)))))))) from to fs l h = absurd (omega arith)
 
--- a number of one byte
-pub one-byte : (n : ℕ) → n < 256 → bigEndian 1 n ≡ n ∷ []
+-- a host is its byte
+pub one-byte : (n : ℕ) → n < 256 → bigEndian hostWidth n ≡ n ∷ []
 unfolding bigEndian
 one-byte n h = let e : n % 256 ≡ n = omega arith in rw e
 
@@ -74,7 +73,7 @@ one-byte n h = let e : n % 256 ≡ n = omega arith in rw e
 pub record PutOperation (o : Operation) (before : List ℕ) (at : ℕ) (after : List ℕ) (end : ℕ) : Type 0 where
   pub puts : Puts before at (operationBytes (operationIs o)) after end
   pub fits : FitsOperation (operationIs o)
-  pub most : end ≤ at + mostOperationSize
+  pub most : end ≤ at + operationSize
 
 -- true has its code alone
 pub operation-true : (o : Operation) (d : List ℕ) (at : ℕ) → o .code ≡ trueCode → at < length d → PutOperation o d at (set d at (o .code)) (at + codeWidth)
@@ -94,12 +93,12 @@ module _ (o : Operation) (p : HasParts o) (n : o .code ≡ trueCode → ⊥) (si
     fields = rw (fields-of (o .code) (o .from) (o .to) fs (omega (arith, n))) h;
   }
 
-  counted-most : length (countedBytes fieldBytes fs) ≤ countWidth + fieldsRoom
+  counted-most : length (countedBytes fieldBytes fs) ≤ countWidth + fieldsSize
   unfolding countedBytes
   counted-most = omega (arith, fields-most (take (o .count) (o .fields)), length-take-le (o .count) (o .fields) (omega (arith, p .count)), p .count)
 
   -- its bytes, as they were put
-  operation-put : (front d : List ℕ) (at : ℕ) (e₀ : List ℕ) (m : ℕ) (e : List ℕ) (end : ℕ) → Puts d at front e₀ m → length front ≤ spacesRoom → at + spacesRoom ≤ length d
+  operation-put : (front d : List ℕ) (at : ℕ) (e₀ : List ℕ) (m : ℕ) (e : List ℕ) (end : ℕ) → Puts d at front e₀ m → length front ≤ pastTo → at + pastTo ≤ length d
       → operationBytes (operationIs o) ≡ front ++ countedBytes fieldBytes fs → PutCounted (take (o .count) (o .fields)) e₀ m e end → PutOperation o d at e end
   operation-put front d at e₀ m e end r few h same q =
       let all = puts-then d at front e₀ m (countedBytes fieldBytes fs) e end r (q .puts) (omega (arith, r .stops)) in
@@ -110,35 +109,35 @@ module _ (o : Operation) (p : HasParts o) (n : o .code ≡ trueCode → ⊥) (si
       }
 
   -- the code, then a space
-  space-put : (d : List ℕ) (at : ℕ) (e : List ℕ) → at + mostOperationSize ≤ length d → e ≡ over (set d at (o .code)) (at + codeWidth) (bigEndian spaceWidth (o .from)) spaceWidth
-      → Puts d at (o .code ∷ bigEndian spaceWidth (o .from)) e (at + codeWidth + spaceWidth)
+  space-put : (d : List ℕ) (at : ℕ) (e : List ℕ) → at + operationSize ≤ length d → e ≡ over (set d at (o .code)) (at + fromAt) (bigEndian spaceWidth (o .from)) spaceWidth
+      → Puts d at (o .code ∷ bigEndian spaceWidth (o .from)) e (at + fromAt + spaceWidth)
   space-put d at e h s =
-      puts-then d at (o .code ∷ []) (set d at (o .code)) (at + codeWidth) (bigEndian spaceWidth (o .from)) e (at + codeWidth + spaceWidth) (puts-byte d at (o .code) (omega arith))
-      (puts-over (set d at (o .code)) (at + codeWidth) (bigEndian spaceWidth (o .from)) spaceWidth e (bigEndian-length spaceWidth (o .from)) s) (omega arith)
+      puts-then d at (o .code ∷ []) (set d at (o .code)) (at + fromAt) (bigEndian spaceWidth (o .from)) e (at + fromAt + spaceWidth) (puts-byte d at (o .code) (omega arith))
+      (puts-over (set d at (o .code)) (at + fromAt) (bigEndian spaceWidth (o .from)) spaceWidth e (bigEndian-length spaceWidth (o .from)) s) (omega arith)
 
   -- code, space, field count, fields
-  pub operation-one : (d : List ℕ) (at : ℕ) (e₁ e : List ℕ) (end : ℕ) → o .code < twoSpaces → at + mostOperationSize ≤ length d
-      → e₁ ≡ over (set d at (o .code)) (at + codeWidth) (bigEndian spaceWidth (o .from)) spaceWidth
-      → PutCounted (take (o .count) (o .fields)) e₁ (at + (codeWidth + spaceWidth)) e end → PutOperation o d at e end
+  pub operation-one : (d : List ℕ) (at : ℕ) (e₁ e : List ℕ) (end : ℕ) → o .code < twoSpaces → at + operationSize ≤ length d
+      → e₁ ≡ over (set d at (o .code)) (at + fromAt) (bigEndian spaceWidth (o .from)) spaceWidth
+      → PutCounted (take (o .count) (o .fields)) e₁ (at + toAt) e end → PutOperation o d at e end
   unfolding operationIs
   operation-one d at e₁ e end l h s q =
-      let n₁ : at + codeWidth + spaceWidth ≡ at + (codeWidth + spaceWidth) = omega arith in
+      let n₁ : at + fromAt + spaceWidth ≡ at + toAt = omega arith in
       let r = rw n₁ at (space-put d at e₁ h s) in
-      operation-put (o .code ∷ bigEndian spaceWidth (o .from)) d at e₁ (at + (codeWidth + spaceWidth)) e end r (omega (arith, bigEndian-length spaceWidth (o .from))) (omega arith)
+      operation-put (o .code ∷ bigEndian spaceWidth (o .from)) d at e₁ (at + toAt) e end r (omega (arith, bigEndian-length spaceWidth (o .from))) (omega arith)
       (bytes-one (o .code) (o .from) (o .to) fs (omega (arith, n)) l) q
 
   -- code, from, to, field count, fields
-  pub operation-two : (d : List ℕ) (at : ℕ) (e₁ e₂ e : List ℕ) (end : ℕ) → twoSpaces ≤ o .code → at + mostOperationSize ≤ length d
-      → e₁ ≡ over (set d at (o .code)) (at + codeWidth) (bigEndian spaceWidth (o .from)) spaceWidth
-      → e₂ ≡ over e₁ (at + (codeWidth + spaceWidth)) (bigEndian spaceWidth (o .to)) spaceWidth
-      → PutCounted (take (o .count) (o .fields)) e₂ (at + spacesRoom) e end → PutOperation o d at e end
+  pub operation-two : (d : List ℕ) (at : ℕ) (e₁ e₂ e : List ℕ) (end : ℕ) → twoSpaces ≤ o .code → at + operationSize ≤ length d
+      → e₁ ≡ over (set d at (o .code)) (at + fromAt) (bigEndian spaceWidth (o .from)) spaceWidth
+      → e₂ ≡ over e₁ (at + toAt) (bigEndian spaceWidth (o .to)) spaceWidth
+      → PutCounted (take (o .count) (o .fields)) e₂ (at + pastTo) e end → PutOperation o d at e end
   unfolding operationIs
   operation-two d at e₁ e₂ e end l h s u q =
       let from : List ℕ = bigEndian spaceWidth (o .from) in
       let to : List ℕ = bigEndian spaceWidth (o .to) in
-      let n₁ : at + codeWidth + spaceWidth ≡ at + (codeWidth + spaceWidth) = omega arith in
-      let n₂ : at + (codeWidth + spaceWidth) + spaceWidth ≡ at + spacesRoom = omega arith in
+      let n₁ : at + fromAt + spaceWidth ≡ at + toAt = omega arith in
+      let n₂ : at + toAt + spaceWidth ≡ at + pastTo = omega arith in
       let r₁ = rw n₁ at (space-put d at e₁ h s) in
-      let r₂ = rw n₂ at (puts-then d at (o .code ∷ from) e₁ (at + (codeWidth + spaceWidth)) to e₂ (at + (codeWidth + spaceWidth) + spaceWidth) r₁ (puts-over e₁ (at + (codeWidth + spaceWidth)) to spaceWidth e₂ (bigEndian-length spaceWidth (o .to)) u) (omega arith)) in
-      operation-put ((o .code ∷ from) ++ to) d at e₂ (at + spacesRoom) e end r₂ (omega (arith, length-append (o .code ∷ from) to, bigEndian-length spaceWidth (o .from), bigEndian-length spaceWidth (o .to))) (omega arith)
+      let r₂ = rw n₂ at (puts-then d at (o .code ∷ from) e₁ (at + toAt) to e₂ (at + toAt + spaceWidth) r₁ (puts-over e₁ (at + toAt) to spaceWidth e₂ (bigEndian-length spaceWidth (o .to)) u) (omega arith)) in
+      operation-put ((o .code ∷ from) ++ to) d at e₂ (at + pastTo) e end r₂ (omega (arith, length-append (o .code ∷ from) to, bigEndian-length spaceWidth (o .from), bigEndian-length spaceWidth (o .to))) (omega arith)
       (bytes-two (o .code) (o .from) (o .to) fs l (p .code) ∙ sym (append-assoc (o .code ∷ from) to (countedBytes fieldBytes fs))) q

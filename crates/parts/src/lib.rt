@@ -5,44 +5,33 @@ ghost use Prim.Native.Nat.{_+_, _≤_, _<_};
 ghost use lib.ListN.{length, take};
 ghost use lib.Dec.{T};
 ghost use Rattle.basis.specs.Lists.{all};
-ghost use Rattle.basis.specs.Sizes.{countWidth, mostFields, valueSize};
+ghost use Rattle.basis.specs.Sizes.{countWidth, mostFields, valueSize, sumSize, fieldsSize, operationSize};
 ghost use Rattle.model.specs.Value.{value};
 ghost use Rattle.model.specs.Writing.{valueBytes};
 ghost use Rattle.statements.specs.Flat.{forms, hasForm};
-ghost use Rattle.parts.specs.Room.{mostFieldSize, fieldsRoom, mostOperationSize};
 ghost use Rattle.parts.specs.Puts.{Puts};
 ghost use Rattle.writer.specs.HasBytes.{hasBytes};
 ghost use Rattle.parts.specs.Fields.{PutField, PutFields};
 ghost use Rattle.parts.specs.Operations.{PutCounted, PutOperation};
-use statements::ANONYMOUS;
-use statements::FORMAL;
 use statements::Field;
 use statements::Operation;
-use statements::REFERENCE;
 use statements::TRUE;
 use statements::TWO_SPACES;
+use words::ANONYMOUS;
 use words::CODE_WIDTH;
 use words::COUNT_WIDTH;
 use words::FORM_WIDTH;
-use words::KIND_WIDTH;
-use words::SPACE_WIDTH;
+use words::FORMAL;
+use words::FROM_AT;
+use words::PAST_KIND;
+use words::PAST_TO;
+use words::PAST_VARIABLE;
+use words::REFERENCE;
+use words::TO_AT;
 use words::VALUE;
 use words::VALUE_BITS_AT;
-use words::VARIABLE_WIDTH;
 use words::put_space_number;
 use words::put4;
-
-// Where the variable of form 1 stands, and the value of forms 3 and 4.
-const FORMAL_VARIABLE_AT: usize = FORM_WIDTH + KIND_WIDTH;
-
-const SUM_VALUE_AT: usize = FORM_WIDTH + VARIABLE_WIDTH;
-
-// An operation: code, space, field count; with two spaces, code, from, to, field count.
-const FROM_AT: usize = CODE_WIDTH;
-
-const TO_AT: usize = FROM_AT + SPACE_WIDTH;
-
-const PAST_TO: usize = TO_AT + SPACE_WIDTH;
 
 // A kind and the four bytes of a value, from index at on. The index after them.
 fn put_value(t: &mut [u8], at: usize, kind: u8, bits: u32) -> usize
@@ -56,7 +45,7 @@ fn put_value(t: &mut [u8], at: usize, kind: u8, bits: u32) -> usize
 
 // A field, from index at on: its form, then what the form has. The index after it.
 fn put_field(t: &mut [u8], at: usize, f: Field) -> usize
-    requires { ⌜ (f .form < forms) × (at + mostFieldSize ≤ length (now t)) ⌝ }
+    requires { ⌜ (f .form < forms) × (at + sumSize ≤ length (now t)) ⌝ }
     ensures { λ r. ⌜ PutField f (now (t .entry)) at (now (t .exit)) r ⌝ }
 {
     let form = f.form;
@@ -65,7 +54,7 @@ fn put_field(t: &mut [u8], at: usize, f: Field) -> usize
         0 => put_value(t, at + FORM_WIDTH, f.kind, f.bits),
         1 => {
             t[at + FORM_WIDTH] = f.kind;
-            t[at + FORMAL_VARIABLE_AT] = f.variable;
+            t[at + PAST_KIND] = f.variable;
             at + FORMAL
         }
         2 => {
@@ -74,7 +63,7 @@ fn put_field(t: &mut [u8], at: usize, f: Field) -> usize
         }
         3 | 4 => {
             t[at + FORM_WIDTH] = f.variable;
-            put_value(t, at + SUM_VALUE_AT, f.kind, f.bits)
+            put_value(t, at + PAST_VARIABLE, f.kind, f.bits)
         }
         _ => {
             t[at + FORM_WIDTH] = f.kind;
@@ -85,7 +74,7 @@ fn put_field(t: &mut [u8], at: usize, f: Field) -> usize
 
 // The fields of an operation, one after the other. The index after them.
 fn put_fields(t: &mut [u8], at: usize, op: Operation) -> usize
-    requires { ⌜ (op .count ≤ mostFields) × T (all hasForm (take (op .count) (op .fields))) × (at + fieldsRoom ≤ length (now t)) ⌝ }
+    requires { ⌜ (op .count ≤ mostFields) × T (all hasForm (take (op .count) (op .fields))) × (at + fieldsSize ≤ length (now t)) ⌝ }
     ensures { λ r. ⌜ PutFields (take (op .count) (op .fields)) (now (t .entry)) at (now (t .exit)) r ⌝ }
 {
     let fields = op.fields;
@@ -102,7 +91,7 @@ fn put_fields(t: &mut [u8], at: usize, op: Operation) -> usize
 
 // A field count and the fields of an operation. The index after them.
 fn put_counted(t: &mut [u8], at: usize, op: Operation) -> usize
-    requires { ⌜ (op .count ≤ mostFields) × T (all hasForm (take (op .count) (op .fields))) × (at + countWidth + fieldsRoom ≤ length (now t)) ⌝ }
+    requires { ⌜ (op .count ≤ mostFields) × T (all hasForm (take (op .count) (op .fields))) × (at + countWidth + fieldsSize ≤ length (now t)) ⌝ }
     ensures { λ r. ⌜ PutCounted (take (op .count) (op .fields)) (now (t .entry)) at (now (t .exit)) r ⌝ }
 {
     t[at] = op.count as u8;
@@ -111,7 +100,7 @@ fn put_counted(t: &mut [u8], at: usize, op: Operation) -> usize
 
 // An operation, from index at on: its code, its spaces, its field count and its fields. The index after it.
 pub fn put_operation(t: &mut [u8], at: usize, op: Operation) -> usize
-    requires { ⌜ (hasBytes op ≡ true) × (at + mostOperationSize ≤ length (now t)) ⌝ }
+    requires { ⌜ (hasBytes op ≡ true) × (at + operationSize ≤ length (now t)) ⌝ }
     ensures { λ r. ⌜ PutOperation op (now (t .entry)) at (now (t .exit)) r ⌝ }
 {
     t[at] = op.code;

@@ -29,7 +29,7 @@ use Rattle.words.specs.ZeroLaws.{zerosAt→zeros, zeros→zerosAt}
 use Rattle.sections.specs.Rows.{Section}
 use Rattle.sections.specs.RowLaws.{take-drop-take, number-written, number-of-row, pieces-at, pieces-wide, pieces-bytes, section-of, section-unused}
 use Rattle.sections.specs.Shapes.{entry, Same, holds-of, area-same, area-of, holds-rows}
-use Rattle.sections.specs.Tests.{ascends, ascends-within, ascends-rise, ascends-of, ascends-map, same-test, differ, all-map, pairwise-map}
+use Rattle.scans.specs.Tests.{ascends, ascends-within, ascends-rise, ascends-of, ascends-map, same-test, differ, all-map, pairwise-map}
 use Rattle.queue.specs.Queue.{Written, waitingShape, waitingOf, IsQueued}
 use Rattle.queue.specs.QueueLaws.{process-of}
 use Rattle.queue.specs.Legal.{sizeIn, bodyIn, bodyFits, rowLegal, earlier, inTime, otherProcess, queueLegal, inOrder}

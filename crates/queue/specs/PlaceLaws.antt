@@ -6,18 +6,16 @@ use mathlib.Core.Option.{some}
 use mathlib.Core.List.{List, [], _++_, List·Memᴰ}
 use lib.ListN.{take, drop, getD, length}
 use lib.Seq.{take-at, drop-drop}
-use lib.Dec.{T}
 use Rattle.basis.specs.Lists.{zeros, pad}
 use Rattle.basis.specs.Numbers.{bigEndian, numberAt}
 use Rattle.basis.specs.NumberLaws.{bigEndian-length, number-bigEndian}
 use Rattle.basis.specs.PadLaws.{take-past, numberAt-pad}
 use Rattle.basis.specs.Sizes.{positionWidth, lengthWidth, hostWidth, processWidth, processAt, hosts, processes, mostBody, waitingLengthAt, waitingBodyAt, waitingSize}
-use Rattle.model.specs.Legal.{parse, legalBody}
+use Rattle.model.specs.Legal.{parse}
 use Rattle.model.specs.Writing.{statementBytes}
 use Rattle.model.specs.ReadBack.{parse-some}
 use Rattle.model.specs.Run.{Waiting}
 use Rattle.layout.specs.States.{waitingBytes, noStatement}
-use Rattle.layout.specs.Stored.{statementOf, statement-of}
 use Rattle.sections.specs.RowLaws.{number-in, take-drop-take}
 use Rattle.sections.specs.Shapes.{entry, items-length, getD-member, holds-row, holds-lawful}
 use Rattle.queue.specs.Queue.{Written, waitingShape, waitingOf, IsQueued, waits}
@@ -31,12 +29,19 @@ noWaiting = waits 0 noStatement
 abbrev pub waitingNth : List ℕ → (n i : ℕ) → Waiting
 waitingNth p n i = getD (waitingOf p n) i noWaiting
 
+-- where its row ends, and where its body begins
+abbrev pub rowEnd : ℕ → ℕ
+rowEnd i = (i + 1) * waitingSize
+
+abbrev pub bodyAt : ℕ → ℕ
+bodyAt i = i * waitingSize + waitingBodyAt
+
 -- the length of its body, and the body, as bytes
 abbrev pub bodySize : List ℕ → ℕ → ℕ
 bodySize p i = numberAt (i * waitingSize + waitingLengthAt) lengthWidth p
 
 abbrev pub bodyOf : List ℕ → ℕ → List ℕ
-bodyOf p i = take (bodySize p i) (drop (i * waitingSize + waitingBodyAt) p)
+bodyOf p i = take (bodySize p i) (drop (bodyAt i) p)
 
 -- ---- a row
 

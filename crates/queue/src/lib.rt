@@ -1,17 +1,17 @@
 // The waiting statements of a state: rows that say position, length and body.
 ghost use mathlib.Core.Path.{_≡_};
-ghost use Prim.Native.Nat.{_+_, _-_, _*_, _≤_, _<_};
+ghost use Prim.Native.Nat.{_+_, _-_, _*_, _^_, _≤_, _<_};
 ghost use mathlib.Core.List.{[], _∷_, _++_};
 ghost use lib.ListN.{length, getD};
 ghost use lib.Dec.{T};
 ghost use Rattle.basis.specs.Lists.{any, keep, pad, pairwise, pieces, removeAt};
 ghost use Rattle.basis.specs.Numbers.{numberAt};
-ghost use Rattle.basis.specs.Sizes.{positionWidth, lengthWidth, hosts, mostBody, mostWaiting, waitingLengthAt, waitingBodyAt, waitingSize};
+ghost use Rattle.basis.specs.Sizes.{positionWidth, lengthWidth, hosts, mostBody, mostWaiting, waitingSize};
 ghost use Rattle.model.specs.Legal.{legalBody};
 ghost use Rattle.layout.specs.Stored.{statementOf};
 ghost use Rattle.queue.specs.Queue.{waitingOf, Queued, IsQueued, ofOther, ofProcess, waits};
 ghost use Rattle.queue.specs.QueueLaws.{rowBytes};
-ghost use Rattle.queue.specs.PlaceLaws.{waitingNth};
+ghost use Rattle.queue.specs.PlaceLaws.{waitingNth, rowEnd, bodyAt, bodySize};
 ghost use Rattle.queue.specs.Legal.{bodyFits, inOrder, otherProcess};
 
 const ROW: usize = words::WAITING;
@@ -20,7 +20,7 @@ const ROW: usize = words::WAITING;
 
 // The position of the waiting statement at index i.
 pub fn position(waiting: &[u8], i: usize) -> u32
-    requires { ⌜ (i + 1) * waitingSize ≤ length (now waiting) ⌝ }
+    requires { ⌜ rowEnd i ≤ length (now waiting) ⌝ }
     ensures { λ r. ⌜ r ≡ numberAt (i * waitingSize) positionWidth (now (waiting .entry)) ⌝ }
 {
     words::word4(waiting, i * ROW)
@@ -29,15 +29,15 @@ pub fn position(waiting: &[u8], i: usize) -> u32
 // Where its body begins.
 pub fn body_at(i: usize) -> usize
     requires { ⌜ i < mostWaiting ⌝ }
-    ensures { λ r. ⌜ r ≡ i * waitingSize + waitingBodyAt ⌝ }
+    ensures { λ r. ⌜ r ≡ bodyAt i ⌝ }
 {
     i * ROW + words::WAITING_BODY_AT
 }
 
 // The length of its body.
 pub fn body_length(waiting: &[u8], i: usize) -> usize
-    requires { ⌜ (i + 1) * waitingSize ≤ length (now waiting) ⌝ }
-    ensures { λ r. ⌜ (r ≡ numberAt (i * waitingSize + waitingLengthAt) lengthWidth (now (waiting .entry))) × (r < 65536) ⌝ }
+    requires { ⌜ rowEnd i ≤ length (now waiting) ⌝ }
+    ensures { λ r. ⌜ (r ≡ bodySize (now (waiting .entry)) i) × (r < 256 ^ lengthWidth) ⌝ }
 {
     words::word2(waiting, i * ROW + words::WAITING_LENGTH_AT) as usize
 }
@@ -101,7 +101,7 @@ pub fn process_waits(waiting: &[u8], n: usize, process: u16) -> bool
     requires { ⌜ IsQueued (now waiting) n ⌝ }
     ensures { λ r. ⌜ r ≡ any (ofProcess process) (waitingOf (now (waiting .entry)) n) ⌝ }
 {
-    sections::find(
+    scans::find(
         waiting,
         ROW,
         n,
@@ -120,7 +120,7 @@ fn row(position: u32, body: &[u8]) -> [u8; ROW]
     let mut row = [0u8; ROW];
     words::put4(&mut row, 0, position);
     words::put2(&mut row, words::WAITING_LENGTH_AT, body.len() as u16);
-    words::copy_at(&mut row, words::WAITING_BODY_AT, body);
+    spans::copy_at(&mut row, words::WAITING_BODY_AT, body);
     row
 }
 
@@ -144,7 +144,7 @@ pub fn body_fits(waiting: &[u8], n: usize, i: usize) -> bool
     if words::MOST_BODY < len {
         return false;
     }
-    words::zero_run(waiting, body_at(i) + len, words::MOST_BODY - len)
+    spans::zero_run(waiting, body_at(i) + len, words::MOST_BODY - len)
 }
 
 // "waiting by position", "waiting positions are 1 to the last".
@@ -152,7 +152,7 @@ pub fn in_order(waiting: &[u8], n: usize, last: u32) -> bool
     requires { ⌜ n * waitingSize ≤ length (now waiting) ⌝ }
     ensures { λ r. ⌜ r ≡ inOrder last (waitingOf (now (waiting .entry)) n) ⌝ }
 {
-    sections::rises(waiting, ROW, n, 0, words::POSITION_WIDTH, 1, last as usize)
+    scans::rises(waiting, ROW, n, 0, words::POSITION_WIDTH, 1, last as usize)
 }
 
 // "of a process that no other entry has".
@@ -160,7 +160,7 @@ pub fn processes_differ(waiting: &[u8], n: usize) -> bool
     requires { ⌜ IsQueued (now waiting) n ⌝ }
     ensures { λ r. ⌜ r ≡ pairwise otherProcess (waitingOf (now (waiting .entry)) n) ⌝ }
 {
-    sections::are_apart(
+    scans::are_apart(
         waiting,
         ROW,
         n,

@@ -1,23 +1,20 @@
 -- The spaces that bodies name: what the answers of the code come to. Assumes nothing.
 use mathlib.Core.Path.{_≡_, refl, sym, ap, _∙_}
-use Prim.Native.Nat.{ℕ, _+_, _≤_, _<_}
-use native.Mathlib.Omega.{arith}
-use native.Mathlib.Numerals.{add-one}
+use Prim.Native.Nat.{ℕ}
 use mathlib.Core.Bool.{Bool, true, false, _||_}
-use mathlib.Core.List.{List, _∷_}
-use lib.ListN.{length, drop, getD, drop-of-length-le}
-use lib.Seq.{drop-cons}
-use lib.Dec.{T}
+use mathlib.Core.List.{List}
+use lib.ListN.{getD}
+use lib.Dec.{T, eqb}
 use Rattle.basis.specs.Lists.{any, isIn}
 use Rattle.basis.specs.Numbers.{numberAt}
 use Rattle.basis.specs.Sizes.{processAt, processWidth}
 use Rattle.model.specs.Statement.{Statement, spacesNamed}
 use Rattle.model.specs.Legal.{legalBody}
-use Rattle.model.specs.Run.{Space, Waiting, Run}
-use Rattle.model.specs.Step.{checks, standing, access, guarded}
+use Rattle.model.specs.Run.{Space, Waiting, Run, isOpen, isDenied}
+use Rattle.model.specs.Step.{checks, standing, access, someWaitingNames, guarded}
 use Rattle.layout.specs.Stored.{statementOf}
-use Rattle.order.specs.Refusal.{refusal}
-use Rattle.order.specs.RefusalLaws.{stops, goes, all-open, some-closed, some-denied}
+use Rattle.order.specs.Refusal.{refusal, closing}
+use Rattle.order.specs.RefusalLaws.{stops, goes, all-open, some-closed, some-denied, close-closed, close-denied, close-used, close-unused}
 use Rattle.names.specs.Asks.{asks}
 use Rattle.names.specs.Head.{body-head, body-host}
 use Rattle.names.specs.declared.Asked.{Asked}
@@ -40,6 +37,23 @@ module _ (s : Run) (p : ℕ) (ns : List ℕ) (ss : List Space) (same : ss ≡ s 
   pub found-denied : (t u : Bool) → t ≡ any (asks ss (Shut p)) ns → t ≡ true → u ≡ any (asks ss Closed) ns → u ≡ false → 11 ≡ refusal (access s p ns)
   unfolding asks
   found-denied t u e f d g = some-denied s p ns (asked (Shut p) t true e f) (asked Closed u false d g)
+
+-- ---- DS: 10, 11 and 15 of the one space, as the code asks for them
+
+module _ (s : Run) (p n : ℕ) (ss : List Space) (same : ss ≡ s .spaces) (t : Bool) (et : t ≡ isOpen ss n) where
+  pub one-closed : t ≡ false → 10 ≡ refusal (closing s p n)
+  one-closed f = close-closed s p n (sym (rw same at et) ∙ f)
+
+  module _ (opened : t ≡ true) (d : Bool) (ed : d ≡ isDenied ss p n) where
+    pub one-denied : d ≡ true → 11 ≡ refusal (closing s p n)
+    one-denied f = close-denied s p n (sym (rw same at et) ∙ opened) (sym (rw same at ed) ∙ f)
+
+    module _ (allowed : d ≡ false) (u : Bool) (eu : u ≡ (eqb n 0 || someWaitingNames s n)) where
+      pub one-used : u ≡ true → 15 ≡ refusal (closing s p n)
+      one-used f = close-used s p n (sym (rw same at et) ∙ opened) (sym (rw same at ed) ∙ allowed) (sym eu ∙ f)
+
+      pub one-free : u ≡ false → 0 ≡ refusal (closing s p n)
+      one-free f = close-unused s p n (sym (rw same at et) ∙ opened) (sym (rw same at ed) ∙ allowed) (sym eu ∙ f)
 
 -- ---- AG: 7 and 9 of its host and process, then 10 and 11 of its spaces
 
@@ -69,29 +83,3 @@ same-is ss n ns = refl
 
 pub naming-is : (ss : List Space) (n : ℕ) (w : Waiting) (st : Statement) (t : Bool) → st ≡ w .statement → t ≡ any (asks ss (Same n)) (spacesNamed st) → t ≡ naming n w
 naming-is ss n w st t same e = e ∙ same-is ss n (spacesNamed st) ∙ ap (λ (x : Statement). isIn n (spacesNamed x)) same
-
--- ---- a list passed one by one: a test of all is that of those that are left
-
-pub record Passing {A : Type 0} (q : A → Bool) (l : List A) (i : ℕ) : Type 0 where
-  pub within : i ≤ length l
-  pub rest : any q l ≡ any q (drop i l)
-
-pub passing-start : {A : Type 0} (q : A → Bool) (l : List A) → Passing q l 0
-passing-start q l = record { within = omega arith; rest = refl }
-
-module _ {A : Type 0} (q : A → Bool) (l : List A) (none : A) (i : ℕ) (u : Passing q l i) where
-  here : i < length l → any q l ≡ (q (getD l i none) || any q (drop (i + 1) l))
-  unfolding any
-  here below =
-      let rest : drop i l ≡ getD l i none ∷ drop (i + 1) l = drop-cons l i none below ∙ rw (add-one i) in
-      u .rest ∙ ap (any q) rest
-
-  pub passing-on : i < length l → q (getD l i none) ≡ false → Passing q l (i + 1)
-  passing-on below e = record { within = omega arith; rest = here below ∙ ap (λ (t : Bool). t || any q (drop (i + 1) l)) e }
-
-  pub passing-yes : i < length l → q (getD l i none) ≡ true → true ≡ any q l
-  passing-yes below e = sym (here below ∙ ap (λ (t : Bool). t || any q (drop (i + 1) l)) e)
-
-  pub passing-end : length l ≤ i → false ≡ any q l
-  unfolding any
-  passing-end past = sym (u .rest ∙ ap (any q) (drop-of-length-le l {i = i} past))

@@ -7,7 +7,6 @@ ghost use Rattle.basis.specs.Lists.{any};
 ghost use Rattle.basis.specs.Sizes.{hosts, spaceNumbers};
 ghost use Rattle.model.specs.Statement.{spacesNamed};
 ghost use Rattle.model.specs.Legal.{legalBody};
-ghost use Rattle.model.specs.Run.{isOpen, isDenied};
 ghost use Rattle.model.specs.Step.{checks, access, someWaitingNames, closeSpace, guarded};
 ghost use Rattle.layout.specs.States.{decode};
 ghost use Rattle.layout.specs.Stored.{IsStored, statementOf};
@@ -17,31 +16,6 @@ ghost use Rattle.queue.specs.Queue.{waitingOf, IsQueued};
 ghost use Rattle.queue.specs.PlaceLaws.{waitingNth};
 ghost use Rattle.refusals.specs.Naming.{naming};
 use names::Asked;
-
-// ---- one space
-
-// Whether a space is open.
-fn space_open(state: &[u8], space: u16) -> bool
-    requires { ⌜ IsStored (now state) ⌝ }
-    ensures { λ r. ⌜ r ≡ isOpen (decode (now (state .entry)) .spaces) space ⌝ }
-{
-    let n = header::space_count(state);
-    spaces::is_open(&state[words::SPACES_AT..words::SPACES_END], n, space)
-}
-
-// Whether a space is private to another process.
-fn space_denied(state: &[u8], process: u16, space: u16) -> bool
-    requires { ⌜ IsStored (now state) ⌝ }
-    ensures { λ r. ⌜ r ≡ isDenied (decode (now (state .entry)) .spaces) process space ⌝ }
-{
-    let n = header::space_count(state);
-    spaces::is_denied(
-        &state[words::SPACES_AT..words::SPACES_END],
-        n,
-        space,
-        process,
-    )
-}
 
 // ---- the spaces that a body names
 
@@ -129,10 +103,16 @@ fn refuse_space(state: &[u8], process: u16, space: u16) -> u8
     requires { ⌜ IsStored (now state) ⌝ }
     ensures { λ r. ⌜ r ≡ refusal (closing (decode (now (state .entry))) process space) ⌝ }
 {
-    if !space_open(state, space) {
+    let n = header::space_count(state);
+    if !spaces::is_open(&state[words::SPACES_AT..words::SPACES_END], n, space) {
         return 10;
     }
-    if space_denied(state, process, space) {
+    if spaces::is_denied(
+        &state[words::SPACES_AT..words::SPACES_END],
+        n,
+        space,
+        process,
+    ) {
         return 11;
     }
     if in_use(state, space) {

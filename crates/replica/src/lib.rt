@@ -17,7 +17,7 @@ pub extern "C" fn replica_fresh(state: &mut [u8]) -> u64
 pub extern "C" fn replica_take(state: &mut [u8], record: &[u8], reply: &mut [u8]) -> u64
     ensures { λ r. ⌜ answer r (now (state .exit)) (now (reply .exit)) ≡ takeCall (lent (now (state .entry)) (now («record» .entry)) (now (reply .entry))) ⌝ }
 {
-    admission::take(state, record, reply)
+    steps::take(state, record, reply)
 }
 
 // ---- the writer: 0, 6 or 2

@@ -23,7 +23,7 @@ fn put_head(
     requires { ⌜ replyHeaderSize ≤ length (now out) ⌝ }
     ensures { λ _. ⌜ now (out .exit) ≡ over (now (out .entry)) 0 (headBytes position host process outcome branch count) replyHeaderSize ⌝ }
 {
-    words::copy_at(out, 0, b"RP");
+    spans::copy_at(out, 0, b"RP");
     words::put4(out, words::REPLY_POSITION_AT, position);
     out[words::REPLY_HOST_AT] = host;
     words::put2(out, words::REPLY_PROCESS_AT, process);

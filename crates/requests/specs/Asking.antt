@@ -5,14 +5,14 @@ use mathlib.Core.Option.{Option, none, some}
 use mathlib.Core.List.{List}
 use lib.ListN.{length, getD}
 use lib.Dec.{eqb, ltb}
-use Rattle.basis.specs.Sizes.{hosts, spaceNumbers}
+use Rattle.basis.specs.Sizes.{hosts, spaceNumbers, hostAt}
 use Rattle.model.specs.Step.{Request, recover, crash, monitor, openSpace, closeSpace}
 use Rattle.requests.specs.declared.Asked.{Asked}
 use Rattle.requests.specs.declared.Asked.the-variants.{Malformed, Recover, Crash, Monitor, Open, Close}
 
 -- n bytes, the first a host
 unfoldable pub fromHost : List ℕ → ℕ → Bool
-fromHost body n = eqb (length body) n && ltb (getD body 0 0) hosts
+fromHost body n = eqb (length body) n && ltb (getD body hostAt 0) hosts
 
 -- the request; none where the body is malformed
 abbrev pub askedIs : Asked → Option Request

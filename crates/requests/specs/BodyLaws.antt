@@ -14,7 +14,7 @@ use Rattle.basis.specs.Logic.{and-l, and-r, true-is}
 use Rattle.basis.specs.Lists.{isEmpty}
 use Rattle.basis.specs.Numbers.{number, numberAt}
 use Rattle.basis.specs.NumberLaws.{number-one}
-use Rattle.basis.specs.Sizes.{hostWidth, processWidth, hosts, processAt, hostBody, processBody}
+use Rattle.basis.specs.Sizes.{hostWidth, processWidth, hosts, processAt, hostBody, processBody, hostAt}
 use Rattle.model.specs.Reading.{Reader, _>>=_, give, refuse, natural, wholeOf}
 use Rattle.model.specs.Step.{RV, CR, MO, Request, recover, crash, monitor, host, monitorBody, requestOf}
 use Rattle.requests.specs.Asking.{fromHost}
@@ -38,7 +38,7 @@ process-read a b l = let e : leb processWidth (length (a ∷ b ∷ l)) ≡ true 
 -- ---- bodies
 
 -- a host alone
-host-request : (made : ℕ → Request) (body : List ℕ) → Option·map made (wholeOf host body) ≡ cond (fromHost body hostBody) (some (made (getD body 0 0))) none
+host-request : (made : ℕ → Request) (body : List ℕ) → Option·map made (wholeOf host body) ≡ cond (fromHost body hostBody) (some (made (getD body hostAt 0))) none
 unfolding wholeOf provided isEmpty fromHost
 host-request made [] = unfold host natural _>>=_ provided in refl
 host-request made (b ∷ []) = rw (host-read b []) (go (ltb b hosts))
@@ -55,7 +55,7 @@ host-request made (b ∷ c ∷ l) =
     go false = refl
 
 -- host and process
-monitor-request : (body : List ℕ) → wholeOf monitorBody body ≡ cond (fromHost body processBody) (some (monitor (getD body 0 0) (numberAt processAt processWidth body))) none
+monitor-request : (body : List ℕ) → wholeOf monitorBody body ≡ cond (fromHost body processBody) (some (monitor (getD body hostAt 0) (numberAt processAt processWidth body))) none
 unfolding wholeOf monitorBody _>>=_ give provided isEmpty fromHost numberAt
 monitor-request [] = unfold host natural _>>=_ provided in refl
 monitor-request (a ∷ []) = rw (host-read a []) (go (ltb a hosts))
@@ -87,18 +87,18 @@ pub from-no : (body : List ℕ) (n : ℕ) → length body ≢ n → false ≡ fr
 unfolding fromHost
 from-no body n h = sym (rw (ne-eqb (length body) n h))
 
-pub from-yes : (body : List ℕ) (n : ℕ) → length body ≡ n → ltb (getD body 0 0) hosts ≡ fromHost body n
+pub from-yes : (body : List ℕ) (n : ℕ) → length body ≡ n → ltb (getD body hostAt 0) hosts ≡ fromHost body n
 unfolding fromHost
 from-yes body n h = sym (rw (eq-eqb (length body) n h))
 
-pub from-host : (body : List ℕ) (n : ℕ) (r : Bool) → r ≡ fromHost body n → r ≡ true → (length body ≡ n) × (getD body 0 0 < hosts)
+pub from-host : (body : List ℕ) (n : ℕ) (r : Bool) → r ≡ fromHost body n → r ≡ true → (length body ≡ n) × (getD body hostAt 0 < hosts)
 unfolding fromHost
 from-host body n r e z =
-    let t : T (eqb (length body) n && ltb (getD body 0 0) hosts) = true-is (eqb (length body) n && ltb (getD body 0 0) hosts) (sym e ∙ z) in
-    (eqb→eq (length body) n (and-l (eqb (length body) n) (ltb (getD body 0 0) hosts) t), ltb→lt (getD body 0 0) hosts (and-r (eqb (length body) n) (ltb (getD body 0 0) hosts) t))
+    let t : T (eqb (length body) n && ltb (getD body hostAt 0) hosts) = true-is (eqb (length body) n && ltb (getD body hostAt 0) hosts) (sym e ∙ z) in
+    (eqb→eq (length body) n (and-l (eqb (length body) n) (ltb (getD body hostAt 0) hosts) t), ltb→lt (getD body hostAt 0) hosts (and-r (eqb (length body) n) (ltb (getD body hostAt 0) hosts) t))
 
 module _ (body : List ℕ) (r : Bool) where
-  pub recover-yes : r ≡ fromHost body hostBody → r ≡ true → requestOf RV body ≡ some (recover (getD body 0 0))
+  pub recover-yes : r ≡ fromHost body hostBody → r ≡ true → requestOf RV body ≡ some (recover (getD body hostAt 0))
   unfolding requestOf
   recover-yes e z = host-request recover body ∙ rw (← e, z)
 
@@ -106,7 +106,7 @@ module _ (body : List ℕ) (r : Bool) where
   unfolding requestOf
   recover-no e z = host-request recover body ∙ rw (← e, z)
 
-  pub crash-yes : r ≡ fromHost body hostBody → r ≡ true → requestOf CR body ≡ some (crash (getD body 0 0))
+  pub crash-yes : r ≡ fromHost body hostBody → r ≡ true → requestOf CR body ≡ some (crash (getD body hostAt 0))
   unfolding requestOf
   crash-yes e z = host-request crash body ∙ rw (← e, z)
 
@@ -114,7 +114,7 @@ module _ (body : List ℕ) (r : Bool) where
   unfolding requestOf
   crash-no e z = host-request crash body ∙ rw (← e, z)
 
-  pub monitor-yes : r ≡ fromHost body processBody → r ≡ true → requestOf MO body ≡ some (monitor (getD body 0 0) (numberAt processAt processWidth body))
+  pub monitor-yes : r ≡ fromHost body processBody → r ≡ true → requestOf MO body ≡ some (monitor (getD body hostAt 0) (numberAt processAt processWidth body))
   unfolding requestOf
   monitor-yes e z = monitor-request body ∙ rw (← e, z)
 

@@ -12,7 +12,7 @@ use Rattle.basis.specs.Choice.{maybe, provided}
 use Rattle.basis.specs.Lists.{isEmpty}
 use Rattle.basis.specs.Numbers.{number, numberAt}
 use Rattle.basis.specs.NumberLaws.{bytes-of, numberAt-lt}
-use Rattle.basis.specs.Sizes.{processWidth, spaceWidth, hosts, spaceNumbers, processAt, processBody, kindBody, spaceBody}
+use Rattle.basis.specs.Sizes.{processWidth, spaceWidth, hosts, spaceNumbers, processAt, processBody, kindBody, spaceBody, hostAt, spaceAt, kindAt}
 use Rattle.model.specs.Reading.{_>>=_, give, natural, wholeOf}
 use Rattle.model.specs.Step.{MS, DS, Request, openSpace, closeSpace, host, spaceKind, openBody, closeBody, requestOf}
 use Rattle.requests.specs.Asking.{fromHost}
@@ -73,7 +73,7 @@ whole-natural w made l = go (leb w (length l)) (eqb (length l) w) refl refl
     go false true p q = absurd (omega (arith, leb-false w (length l) p, eqb-true (length l) w q))
     go false false p q = refl
 
-close-request : (body : List ℕ) → wholeOf closeBody body ≡ cond (fromHost body spaceBody) (some (closeSpace (getD body 0 0) (numberAt processAt processWidth body) (numberAt processBody spaceWidth body))) none
+close-request : (body : List ℕ) → wholeOf closeBody body ≡ cond (fromHost body spaceBody) (some (closeSpace (getD body hostAt 0) (numberAt processAt processWidth body) (numberAt spaceAt spaceWidth body))) none
 unfolding wholeOf closeBody _>>=_ give provided fromHost numberAt
 close-request [] = short-none (natural spaceWidth) closeSpace [] (omega arith)
 close-request (a ∷ []) = short-none (natural spaceWidth) closeSpace (a ∷ []) (omega arith)
@@ -91,8 +91,8 @@ close-request (a ∷ b ∷ c ∷ l) = last-part (natural spaceWidth) closeSpace 
     go false false = refl
 
 -- of bytes it is a space number
-pub space-within : (body : List ℕ) → ((k : ℕ) → getD body k 0 < 256) → numberAt processBody spaceWidth body < spaceNumbers
-space-within body h = numberAt-lt processBody spaceWidth body (bytes-of body h)
+pub space-within : (body : List ℕ) → ((k : ℕ) → getD body k 0 < 256) → numberAt spaceAt spaceWidth body < spaceNumbers
+space-within body h = numberAt-lt spaceAt spaceWidth body (bytes-of body h)
 
 -- the kind byte that is there
 kind-read : (d : ℕ) (l : List ℕ) → spaceKind (d ∷ l) ≡ cond (leb d 1) (some (eqb d 1, l)) none
@@ -105,8 +105,8 @@ kind-read (suc (suc n)) l =
     let c : leb (suc (suc n)) 1 ≡ false = lt-leb (suc (suc n)) 1 (omega arith) in
     rw (a, b, c)
 
-open-request : (body : List ℕ) → wholeOf openBody body ≡ cond (fromHost body processBody) (some (openSpace (getD body 0 0) (numberAt processAt processWidth body) false))
-    (cond (fromHost body kindBody) (cond (leb (getD body processBody 0) 1) (some (openSpace (getD body 0 0) (numberAt processAt processWidth body) (eqb (getD body processBody 0) 1))) none) none)
+open-request : (body : List ℕ) → wholeOf openBody body ≡ cond (fromHost body processBody) (some (openSpace (getD body hostAt 0) (numberAt processAt processWidth body) false))
+    (cond (fromHost body kindBody) (cond (leb (getD body kindAt 0) 1) (some (openSpace (getD body hostAt 0) (numberAt processAt processWidth body) (eqb (getD body kindAt 0) 1))) none) none)
 unfolding wholeOf openBody _>>=_ give provided fromHost numberAt
 open-request [] = short-none spaceKind openSpace [] (omega arith)
 open-request (a ∷ []) = short-none spaceKind openSpace (a ∷ []) (omega arith)
@@ -140,7 +140,7 @@ open-request (a ∷ b ∷ c ∷ d ∷ e ∷ l) =
     go false = refl
 
 module _ (body : List ℕ) (r : Bool) where
-  pub close-yes : r ≡ fromHost body spaceBody → r ≡ true → requestOf DS body ≡ some (closeSpace (getD body 0 0) (numberAt processAt processWidth body) (numberAt processBody spaceWidth body))
+  pub close-yes : r ≡ fromHost body spaceBody → r ≡ true → requestOf DS body ≡ some (closeSpace (getD body hostAt 0) (numberAt processAt processWidth body) (numberAt spaceAt spaceWidth body))
   unfolding requestOf
   close-yes e z = close-request body ∙ rw (← e, z)
 
@@ -149,7 +149,7 @@ module _ (body : List ℕ) (r : Bool) where
   close-no e z = close-request body ∙ rw (← e, z)
 
   -- "byte absent: shared"
-  pub open-short : r ≡ fromHost body processBody → r ≡ true → requestOf MS body ≡ some (openSpace (getD body 0 0) (numberAt processAt processWidth body) false)
+  pub open-short : r ≡ fromHost body processBody → r ≡ true → requestOf MS body ≡ some (openSpace (getD body hostAt 0) (numberAt processAt processWidth body) false)
   unfolding requestOf
   open-short e z = open-request body ∙ rw (← e, z)
 
@@ -158,10 +158,10 @@ module _ (body : List ℕ) (r : Bool) where
     unfolding requestOf
     open-no y = open-request body ∙ rw (← e, z, ← f, y)
 
-    pub open-other : q ≡ true → 1 < getD body processBody 0 → requestOf MS body ≡ none
+    pub open-other : q ≡ true → 1 < getD body kindAt 0 → requestOf MS body ≡ none
     unfolding requestOf
-    open-other y h = let c : leb (getD body processBody 0) 1 ≡ false = lt-leb (getD body processBody 0) 1 h in open-request body ∙ rw (← e, z, ← f, y, c)
+    open-other y h = let c : leb (getD body kindAt 0) 1 ≡ false = lt-leb (getD body kindAt 0) 1 h in open-request body ∙ rw (← e, z, ← f, y, c)
 
-    pub open-yes : q ≡ true → getD body processBody 0 ≤ 1 → requestOf MS body ≡ some (openSpace (getD body 0 0) (numberAt processAt processWidth body) (eqb (getD body processBody 0) 1))
+    pub open-yes : q ≡ true → getD body kindAt 0 ≤ 1 → requestOf MS body ≡ some (openSpace (getD body hostAt 0) (numberAt processAt processWidth body) (eqb (getD body kindAt 0) 1))
     unfolding requestOf
-    open-yes y h = let c : leb (getD body processBody 0) 1 ≡ true = le-leb (getD body processBody 0) 1 h in open-request body ∙ rw (← e, z, ← f, y, c)
+    open-yes y h = let c : leb (getD body kindAt 0) 1 ≡ true = le-leb (getD body kindAt 0) 1 h in open-request body ∙ rw (← e, z, ← f, y, c)

@@ -24,7 +24,7 @@ fn from_host(body: &[u8], n: usize) -> bool
     if body.len() != n {
         return false;
     }
-    body[0] < words::HOSTS
+    body[words::HOST_AT] < words::HOSTS
 }
 
 // "`RV` host".
@@ -34,7 +34,7 @@ fn read_recover(body: &[u8]) -> Asked
     if !from_host(body, words::HOST_BODY) {
         return Asked::Malformed;
     }
-    let host = body[0];
+    let host = body[words::HOST_AT];
     Asked::Recover(host)
 }
 
@@ -45,7 +45,7 @@ fn read_crash(body: &[u8]) -> Asked
     if !from_host(body, words::HOST_BODY) {
         return Asked::Malformed;
     }
-    let host = body[0];
+    let host = body[words::HOST_AT];
     Asked::Crash(host)
 }
 
@@ -56,7 +56,7 @@ fn read_monitor(body: &[u8]) -> Asked
     if !from_host(body, words::PROCESS_BODY) {
         return Asked::Malformed;
     }
-    let host = body[0];
+    let host = body[words::HOST_AT];
     Asked::Monitor(host, words::word2(body, words::PROCESS_AT))
 }
 
@@ -65,17 +65,17 @@ fn read_open(body: &[u8]) -> Asked
     ensures { λ r. ⌜ (askedIs r ≡ requestOf MS (now (body .entry))) × Within r ⌝ }
 {
     if from_host(body, words::PROCESS_BODY) {
-        let host = body[0];
+        let host = body[words::HOST_AT];
         return Asked::Open(host, words::word2(body, words::PROCESS_AT), false);
     }
     if !from_host(body, words::KIND_BODY) {
         return Asked::Malformed;
     }
-    let kind = body[words::PROCESS_BODY];
+    let kind = body[words::KIND_AT];
     if 1 < kind {
         return Asked::Malformed;
     }
-    let host = body[0];
+    let host = body[words::HOST_AT];
     Asked::Open(host, words::word2(body, words::PROCESS_AT), kind == 1)
 }
 
@@ -86,9 +86,9 @@ fn read_close(body: &[u8]) -> Asked
     if !from_host(body, words::SPACE_BODY) {
         return Asked::Malformed;
     }
-    let host = body[0];
+    let host = body[words::HOST_AT];
     let process = words::word2(body, words::PROCESS_AT);
-    let space = words::space_number(body, words::PROCESS_BODY);
+    let space = words::space_number(body, words::SPACE_AT);
     Asked::Close(host, process, space)
 }
 

@@ -4,15 +4,13 @@ use Prim.Native.Nat.{ℕ, zero, suc}
 use native.Mathlib.Omega.{arith}
 use mathlib.Core.Option.{Option, none, some, Option·some-injective, Option·none-ne-some}
 use mathlib.Core.List.{List}
-use lib.ListN.{length, take, drop}
+use lib.ListN.{length}
 use lib.Seq.{take-all}
 use lib.Dec.{T}
 use lib.Pow.{areBytes}
 use borrow.Author.Tests.{ne-eqb}
-use borrow.Rule.Slice.PartMut.{putMid}
 use Rattle.basis.specs.Choice.{maybe}
-use Rattle.basis.specs.Numbers.{bigEndian}
-use Rattle.basis.specs.Sizes.{variables, tupleCountWidth, tupleCountAt, tuplesSize, tuplesAt}
+use Rattle.basis.specs.Sizes.{variables}
 use Rattle.model.specs.Matching.{Tuple}
 use Rattle.model.specs.Execution.{Executed, attempt, tuplesAfter}
 use Rattle.model.specs.Run.{Run, withTuples, boundFrom, outcomeOf, valuesOf}
@@ -22,7 +20,7 @@ use Rattle.model.specs.Effects.{ran-fit}
 use Rattle.model.specs.ReadBack.{parse-again}
 use Rattle.layout.specs.States.{decode}
 use Rattle.layout.specs.Stored.{IsStored, statementOf, legal-parse}
-use Rattle.words.specs.Over.{over}
+use Rattle.header.specs.Rows.{tupleCountPart, tuplesPart, withRow, withPart}
 use Rattle.tuples.specs.Section.{tuplesOf}
 use Rattle.replies.specs.Written.{boundTo, ranValues}
 use Rattle.replies.specs.WrittenLaws.{ran-failed, bound-from}
@@ -32,7 +30,7 @@ use Rattle.bindings.specs.Variables.{bindingsOf, bindings-at, bindings-length, 
 use Rattle.operations.specs.Performing.{resultIs}
 use Rattle.engine.specs.Attempting.{ranIs, Attempted}
 use Rattle.running.specs.Executed.{MayRun, Left}
-use Rattle.state.specs.Lent.{tuples-read}
+use Rattle.state.specs.Lent.{tuplesLent, tuples-read}
 
 -- ---- the answer
 
@@ -80,15 +78,14 @@ module _ (b : List ℕ) (n : ℕ) (h : IsStored b) (e : n ≡ length ((decode b)
 
   -- what stands after it
   pub left : (body p out : List ℕ) (m branch outcome : ℕ) (v : Vars) → MayRun (decode b) body → T (areBytes body) → Sixteen v
-      → Attempted (attempt (tuplesOf (take tuplesSize (drop tuplesAt b)) n) (statementOf body)) (tuplesOf (take tuplesSize (drop tuplesAt b)) n) branch outcome m v p
-      → out ≡ over (putMid tuplesAt tuplesSize b p) tupleCountAt (bigEndian tupleCountWidth m) tupleCountWidth
+      → Attempted (attempt (tuplesOf (tuplesLent b) n) (statementOf body)) (tuplesOf (tuplesLent b) n) branch outcome m v p → out ≡ withRow tupleCountPart m (withPart tuplesPart b p)
       → Left (decode b) (attempt ((decode b) .tuples) (statementOf body)) out branch outcome (ranValues outcome (v .bound) (v .kinds) (v .bits))
   left body p out m branch outcome v may t sixteen did put =
       let s : Run = decode b in
       let o : Option Executed = attempt (s .tuples) (statementOf body) in
       let a : Attempted o (s .tuples) branch outcome m v p = rw (tuples-read b n h e) at did in
       record {
-        stored = tuples-changed b p out s m (maybe o (s .tuples) (λ x. tuplesAfter (s .tuples) (x .result))) h (a .holds) (after-fit body may t o refl) put;
+        stored = tuples-changed h (a .holds) (after-fit body may t o refl) put;
         runs = branch-is o outcome v (tuplesOf p m) branch (a .is);
         answers = answer-is o outcome v (tuplesOf p m) branch (a .is) sixteen;
       }

@@ -1,6 +1,5 @@
 pub mod Rows
 pub mod RowLaws
 pub mod Loops
-pub mod Tests
 pub mod Shapes
 pub mod Parts

@@ -13,7 +13,8 @@ use Rattle.basis.specs.ListLaws.{Each, each-nil, each-cons, each-append, remove
 use Rattle.basis.specs.PadLaws.{zeros-length, pad-length, pad-split}
 pub use Rattle.basis.specs.PadLaws.{zeros-add, flatMap-append}
 use Rattle.basis.specs.Numbers.{bigEndian, number, numberAt}
-use Rattle.basis.specs.NumberLaws.{bytes-cons, bytes-take, bytes-drop, bigEndian-number}
+use Rattle.basis.specs.NumberLaws.{bytes-take, bytes-drop, bigEndian-number}
+pub use Rattle.basis.specs.NumberLaws.{bytes-of}
 use Rattle.words.specs.Over.{over, zerosAt}
 use Rattle.words.specs.OverLaws.{over-mid, over-append}
 use Rattle.words.specs.ZeroLaws.{zerosAt→zeros, zeros→zerosAt}
@@ -117,11 +118,6 @@ number-written at w b t h =
     let part : List ℕ = take w (drop at b) in
     let l : length part ≡ w = length-take-le w (drop at b) (simp length-drop (omega arith)) in
     subst (λ (k : ℕ). bigEndian k (number part) ≡ part) l (bigEndian-number part (bytes-take w (drop at b) (bytes-drop at b t)))
-
--- as a proof has it of a slice
-pub bytes-of : (l : List ℕ) → ((k : ℕ) → getD l k 0 < 256) → T (areBytes l)
-bytes-of [] h = tt
-bytes-of (a ∷ l) h = bytes-cons a l (h 0) (bytes-of l (λ k. h (suc k)))
 
 pub pieces-bytes : (n w : ℕ) (l : List ℕ) → T (areBytes l) → Each (λ (r : List ℕ). T (areBytes r)) (pieces n w l)
 unfolding pieces

@@ -26,7 +26,7 @@ use Rattle.words.specs.WordLaws.{numberAt-1}
 use Rattle.sections.specs.Rows.{Section}
 use Rattle.sections.specs.RowLaws.{pad-whole, number-written, number-of-row, pieces-wide, pieces-bytes, section-of, section-unused}
 use Rattle.sections.specs.Shapes.{Same, items, holds-of, area-same, area-of}
-use Rattle.sections.specs.Tests.{ascends, ascends-within, ascends-rise, ascends-of, ascends-map, refused, same-test}
+use Rattle.scans.specs.Tests.{ascends, ascends-within, ascends-rise, ascends-of, ascends-map, refused, same-test}
 use Rattle.spaces.specs.Spaces.{Small, spaceShape, spacesOf, IsListed, Rising}
 use Rattle.spaces.specs.Legal.{lower, zeroOpen, belowNext, spacesLegal, accessOk}
 

@@ -5,14 +5,14 @@ use native.Mathlib.Omega.{arith}
 use mathlib.Core.List.{List, [], _∷_}
 use mathlib.Core.Logic.{_⊎_, inl, inr}
 use lib.ListN.{length, getD}
-use lib.Dec.{T, ltb, ltb→lt}
-use borrow.Author.Tests.{eq-eqb, ne-eqb, ltb-true, ltb-false}
-use mathlib.Core.Bool.{Bool, true, false}
+use lib.Dec.{T, leb, ltb, ltb→lt}
+use borrow.Author.Tests.{eq-eqb, ne-eqb, ltb-true, ltb-false, leb-true, leb-false, lt-ltb, le-ltb}
+use mathlib.Core.Bool.{Bool, true, false, _&&_}
 use Rattle.basis.specs.Logic.{and-l, and-r}
 use Rattle.basis.specs.Lists.{all, pairwise}
 use Rattle.basis.specs.ListLaws.{all-at}
 use Rattle.basis.specs.Numbers.{numberAt}
-use Rattle.basis.specs.Sizes.{spaceWidth, spaceSize}
+use Rattle.basis.specs.Sizes.{spaceWidth, spaceSize, mostSpaces}
 use Rattle.model.specs.Run.{Space}
 use Rattle.layout.specs.States.{spaceRead}
 use Rattle.sections.specs.Rows.{indexOf}
@@ -59,15 +59,40 @@ apart i j = go (ltb i j) refl
     go true q = inr (ltb-true i j q)
     go false q = inl (ltb-false i j q)
 
--- the number that is sought stands, if at all, in the `left` entries from index low on
+-- the number that is sought stands, if at all, in the `left` entries from index low on, as far as there are so many
 pub record Among (p : List ℕ) (n m low left : ℕ) : Type 0 where
-  pub room : low + left ≤ n
-  pub some : 0 < n → 0 < left
+  pub room : low + left ≤ mostSpaces
+  pub some : 0 < n → low < n
   pub above : (j : ℕ) → low + left ≤ j → j < n → m < numberIn (spacesOf p n) j
   pub below : 0 < low → numberIn (spacesOf p n) low ≤ m
 
-pub among-all : (p : List ℕ) (n m : ℕ) → Among p n m 0 n
-among-all p n m = record { room = omega arith; some = λ h. h; above = λ j k l. absurd (omega arith); below = λ h. absurd (omega arith) }
+pub among-all : (p : List ℕ) (n m : ℕ) → n ≤ mostSpaces → Among p n m 0 mostSpaces
+among-all p n m few = record { room = omega arith; some = λ h. h; above = λ j k l. absurd (omega arith); below = λ h. absurd (omega arith) }
+
+-- there is a space at an index, whose number is not above m
+unfoldable pub reached : (ss : List Space) (n m i : ℕ) → Bool
+reached ss n m i = ltb i n && leb (numberIn ss i) m
+
+module _ (ss : List Space) (n m i : ℕ) where
+  pub reach-past : n ≤ i → false ≡ reached ss n m i
+  unfolding reached
+  reach-past h = rw (le-ltb i n h)
+
+  pub reach-number : (x : ℕ) → x ≡ numberIn ss i → i < n → leb x m ≡ reached ss n m i
+  unfolding reached
+  reach-number x e h = rw (lt-ltb i n h, e)
+
+  pub reach-yes : reached ss n m i ≡ true → (i < n) × (numberIn ss i ≤ m)
+  unfolding reached
+  reach-yes y = go (ltb i n) (leb (numberIn ss i) m) refl refl y
+    where
+      go : (a b : Bool) → ltb i n ≡ a → leb (numberIn ss i) m ≡ b → (a && b) ≡ true → (i < n) × (numberIn ss i ≤ m)
+      go true true p q z = (ltb-true i n p, leb-true (numberIn ss i) m q)
+      go true false p q z = let o : _≡_ {A = ℕ} 0 1 = cc in absurd (omega arith)
+      go false b p q z = let o : _≡_ {A = ℕ} 0 1 = cc in absurd (omega arith)
+
+  pub reach-no : reached ss n m i ≡ false → i < n → m < numberIn ss i
+  reach-no e h = leb-false (numberIn ss i) m (reach-number (numberIn ss i) refl h ∙ e)
 
 module _ (p : List ℕ) (n m : ℕ) (rise : Rising (spacesOf p n)) where
   abbrev ss : List Space
@@ -81,20 +106,20 @@ module _ (p : List ℕ) (n m : ℕ) (rise : Rising (spacesOf p n)) where
   place-here i h e = index-here ss i m rise (omega (arith, count)) e
 
   module _ (low left half : ℕ) (a : Among p n m low left) (much : 1 < left) (is : half ≡ left / 2) where
-    pub among-high : numberIn ss (low + half) ≤ m → Among p n m (low + half) (left - half)
+    pub among-high : (low + half < n) × (numberIn ss (low + half) ≤ m) → Among p n m (low + half) (left - half)
     among-high h =
         let room = a .room in
         let same : low + half + (left - half) ≡ low + left = omega arith in
-        record { room = omega arith; some = λ k. omega arith; above = λ j k l. a .above j (omega arith) l; below = λ k. h }
+        record { room = omega arith; some = λ k. h .0; above = λ j k l. a .above j (omega arith) l; below = λ k. h .1 }
 
-    pub among-low : m < numberIn ss (low + half) → Among p n m low (left - half)
+    pub among-low : (low + half < n → m < numberIn ss (low + half)) → Among p n m low (left - half)
     among-low h =
         let room = a .room in
-        record { room = omega arith; some = λ k. omega arith; above = λ j k l. go j k l (apart (low + half) j); below = a .below }
+        record { room = omega arith; some = a .some; above = λ j k l. go j k l (apart (low + half) j); below = a .below }
       where
         go : (j : ℕ) → low + (left - half) ≤ j → j < n → (j ≤ low + half) ⊎ (low + half < j) → m < numberIn ss j
-        go j k l (inl q) = let z : low + half ≡ j = omega arith in rw (← z) h
-        go j k l (inr q) = omega (arith, h, rising-at ss (low + half) j rise q (omega (arith, count)))
+        go j k l (inl q) = let z : low + half ≡ j = omega arith in rw (← z) (h (omega arith))
+        go j k l (inr q) = omega (arith, h (omega arith), rising-at ss (low + half) j rise q (omega (arith, count)))
 
   -- of one entry that is left, it is this one or none
   pub among-other : (low left : ℕ) → Among p n m low left → left ≤ 1 → low < n → (numberIn ss low ≡ m → ⊥) → n ≡ indexOf (numbered m) ss
@@ -106,6 +131,4 @@ module _ (p : List ℕ) (n m : ℕ) (rise : Rising (spacesOf p n)) where
       go j l (inl q) (inr w) z = omega (arith, a .above j (omega arith) l)
 
   pub among-none : (low left : ℕ) → Among p n m low left → n ≤ low → n ≡ indexOf (numbered m) ss
-  among-none low left a h =
-      let room = a .room in
-      sym count ∙ index-nowhere ss m (λ j k q. omega (arith, count, a .some (omega (arith, count))))
+  among-none low left a h = sym count ∙ index-nowhere ss m (λ j k q. omega (arith, count, a .some (omega (arith, count))))

@@ -47,14 +47,6 @@ open-is p n m r e =
     ap (λ (k : ℕ). ltb k n) e
     ∙ (ap (λ (k : ℕ). ltb (indexOf (numbered m) (spacesOf p n)) k) (sym (items-length spaceShape p n)) ∙ index-any (numbered m) (spacesOf p n))
 
--- a space that was open is open still
-pub known-open : (ss : List Space) (m last : ℕ) → m ≡ last → m < spaceNumbers → (last < spaceNumbers → isOpen ss last ≡ true) → true ≡ isOpen ss m
-known-open ss m last e h k = sym (ap (isOpen ss) e ∙ k (omega arith))
-
--- a number that is no space's says nothing
-pub none-known : (ss : List Space) → spaceNumbers < spaceNumbers → isOpen ss spaceNumbers ≡ true
-none-known ss h = absurd (omega arith)
-
 -- a number that all pass stands nowhere among them
 none-denied : (p m : ℕ) (ss : List Space) → T (all (λ b. ltb m (b .number)) ss) → isDenied ss p m ≡ false
 unfolding isDenied any all

@@ -11,7 +11,7 @@ ghost use Rattle.layout.specs.States.{spaceBytes};
 ghost use Rattle.sections.specs.Rows.{indexOf};
 ghost use Rattle.spaces.specs.Spaces.{spacesOf, Listed, IsListed, Rising, numbered, otherThan, opening, noSpace};
 ghost use Rattle.spaces.specs.Legal.{spacesLegal, accessOk};
-ghost use Rattle.spaces.specs.SearchLaws.{numberIn};
+ghost use Rattle.spaces.specs.SearchLaws.{numberIn, reached};
 
 const ROW: usize = words::SPACE;
 
@@ -23,16 +23,28 @@ fn number_at(spaces: &[u8], n: usize, i: usize) -> u32
     sections::field(spaces, ROW, n, i, 0, words::SPACE_WIDTH)
 }
 
-// The index of the space of a number, where numbers rise; n, where it is not open: by halving what is left from index `low` on.
+// Whether there is a space at an index, whose number is not above this one.
+fn reaches(spaces: &[u8], n: usize, i: usize, number: u16) -> bool
+    requires { ⌜ n * spaceSize ≤ length (now spaces) ⌝ }
+    ensures { λ r. ⌜ r ≡ reached (spacesOf (now (spaces .entry)) n) n number i ⌝ }
+{
+    if n <= i {
+        return false;
+    }
+    number_at(spaces, n, i) <= number as u32
+}
+
+// The index of the space of a number, where numbers rise; n, where it is not open: by halving what is left from index `low` on. It begins
+// with room for all spaces, so that every search has the same few steps, and no jump in them depends on the number.
 fn place(spaces: &[u8], n: usize, number: u16) -> usize
-    requires { ⌜ (n * spaceSize ≤ length (now spaces)) × Rising (spacesOf (now spaces) n) ⌝ }
+    requires { ⌜ (n * spaceSize ≤ length (now spaces)) × (n ≤ mostSpaces) × Rising (spacesOf (now spaces) n) ⌝ }
     ensures { λ r. ⌜ r ≡ indexOf (numbered number) (spacesOf (now (spaces .entry)) n) ⌝ }
 {
     let mut low = 0;
-    let mut left = n;
+    let mut left = words::MOST_SPACES;
     while 1 < left {
         let half = left / 2;
-        if number_at(spaces, n, low + half) <= number as u32 {
+        if reaches(spaces, n, low + half, number) {
             low += half;
             left -= half;
         } else {
@@ -54,17 +66,6 @@ pub fn is_open(spaces: &[u8], n: usize, number: u16) -> bool
     ensures { λ r. ⌜ r ≡ isOpen (spacesOf (now (spaces .entry)) n) number ⌝ }
 {
     place(spaces, n, number) < n
-}
-
-// The same, where `last` is a space that was found open, or no number of a space: looked for from the last one found.
-pub fn still_open(spaces: &[u8], n: usize, number: u16, last: u32) -> bool
-    requires { ⌜ IsListed (now spaces) n × Rising (spacesOf (now spaces) n) × (number < spaceNumbers) × (last < spaceNumbers → isOpen (spacesOf (now spaces) n) last ≡ true) ⌝ }
-    ensures { λ r. ⌜ r ≡ isOpen (spacesOf (now (spaces .entry)) n) number ⌝ }
-{
-    if number as u32 == last {
-        return true;
-    }
-    is_open(spaces, n, number)
 }
 
 // Whether the space at an index is private to another process.
@@ -191,14 +192,14 @@ pub fn are_legal(spaces: &[u8], n: usize, next: u32) -> bool
     if next == 0 {
         return false;
     }
-    if !sections::unused_zero(spaces, ROW, n) {
+    if !scans::unused_zero(spaces, ROW, n) {
         return false;
     }
-    if !words::zero_run(spaces, 0, ROW) {
+    if !spans::zero_run(spaces, 0, ROW) {
         return false;
     }
     if !accesses_ok(spaces, n) {
         return false;
     }
-    sections::rises(spaces, ROW, n, 0, words::SPACE_WIDTH, 0, next as usize - 1)
+    scans::rises(spaces, ROW, n, 0, words::SPACE_WIDTH, 0, next as usize - 1)
 }

@@ -16,7 +16,7 @@ fn host_is_up(state: &[u8], host: u8) -> bool
     requires { ⌜ IsStored (now state) × (host < hosts) ⌝ }
     ensures { λ r. ⌜ r ≡ hostUp (decode (now (state .entry))) host ⌝ }
 {
-    values::host_up(header::hosts(state), host)
+    hosts::host_up(header::hosts(state), host)
 }
 
 // Whether a process waits.

@@ -10,17 +10,17 @@ use lib.Dec.{T, nleb→lt}
 use Rattle.basis.specs.Logic.{not-eq}
 use Rattle.basis.specs.Lists.{all}
 use Rattle.basis.specs.ListLaws.{all-at}
-use Rattle.basis.specs.Numbers.{bigEndian, mask, bits}
-use Rattle.basis.specs.Sizes.{maskWidth, countWidth, hosts, mostMonitors, maskAt, monitorsAt}
+use Rattle.basis.specs.Numbers.{mask, bits}
+use Rattle.basis.specs.Sizes.{hosts, mostMonitors}
 use Rattle.model.specs.Run.{Run, withUp, withMonitors, hostUp, nextMonitor, monitorsUsedUp}
 use Rattle.model.specs.Step.{recovered}
 use Rattle.model.specs.Fit.{Fit}
 use Rattle.model.specs.Effects.{recovered-fit, monitored-fit, queue-in}
 use Rattle.layout.specs.States.{decode}
 use Rattle.layout.specs.Stored.{Stored, IsStored}
-use Rattle.words.specs.Over.{over}
+use Rattle.header.specs.Rows.{maskPart, monitorsPart, withRow}
+use Rattle.header.specs.RowLaws.{up-changed, monitors-changed}
 use Rattle.queue.specs.Queue.{ofOther}
-use Rattle.state.specs.Changes.{up-changed, monitors-changed}
 
 -- ---- hosts
 
@@ -30,13 +30,13 @@ unfolding hostUp
 up-at s u h x e k = ap (λ (l : List Bool). getD l h false) e ∙ k
 
 -- the mask with one host changed
-set-up : (b b′ : List ℕ) (s : Run) (u m h : ℕ) (x : Bool) → Stored b s → bits hosts u ≡ s .up → m ≡ mask (set (bits hosts u) h x) → b′ ≡ over b maskAt (bigEndian maskWidth m) maskWidth → Fit (withUp s (set (s .up) h x))
+set-up : (b b′ : List ℕ) (s : Run) (u m h : ℕ) (x : Bool) → Stored b s → bits hosts u ≡ s .up → m ≡ mask (set (bits hosts u) h x) → b′ ≡ withRow maskPart m b → Fit (withUp s (set (s .up) h x))
     → Stored b′ (withUp s (set (s .up) h x))
 set-up b b′ s u m h x k eu em e f =
     let same : m ≡ mask (set (s .up) h x) = em ∙ ap (λ (l : List Bool). mask (set l h x)) eu in
-    up-changed b b′ s (set (s .up) h x) k f (rw same at e)
+    up-changed k f (rw same at e)
 
-pub recovers : (b b′ : List ℕ) (u m h : ℕ) → IsStored b → bits hosts u ≡ (decode b) .up → m ≡ mask (set (bits hosts u) h true) → b′ ≡ over b maskAt (bigEndian maskWidth m) maskWidth → Stored b′ (recovered (decode b) h)
+pub recovers : (b b′ : List ℕ) (u m h : ℕ) → IsStored b → bits hosts u ≡ (decode b) .up → m ≡ mask (set (bits hosts u) h true) → b′ ≡ withRow maskPart m b → Stored b′ (recovered (decode b) h)
 unfolding recovered
 recovers b b′ u m h k eu em e = set-up b b′ (decode b) u m h true k eu em e (recovered-fit (decode b) (k .fit) h)
 
@@ -54,7 +54,7 @@ down-fit s h f t = record {
       record { early = q .early; late = q .late; written = q .written; host = rw (getD-set-other (s .up) h (w .statement .host) false false d) (q .host); named = q .named; waits = q .waits });
 }
 
-pub goes-down : (b b′ : List ℕ) (u m h : ℕ) → IsStored b → T (all (ofOther h) ((decode b) .waiting)) → bits hosts u ≡ (decode b) .up → m ≡ mask (set (bits hosts u) h false) → b′ ≡ over b maskAt (bigEndian maskWidth m) maskWidth
+pub goes-down : (b b′ : List ℕ) (u m h : ℕ) → IsStored b → T (all (ofOther h) ((decode b) .waiting)) → bits hosts u ≡ (decode b) .up → m ≡ mask (set (bits hosts u) h false) → b′ ≡ withRow maskPart m b
     → Stored b′ (withUp (decode b) (set ((decode b) .up) h false))
 goes-down b b′ u m h k t eu em e = set-up b b′ (decode b) u m h false k eu em e (down-fit (decode b) h (k .fit) t)
 
@@ -68,8 +68,6 @@ pub next-monitor : (s : Run) (n : ℕ) → n ≡ s .monitors → n + 1 ≡ nextM
 unfolding nextMonitor
 next-monitor s n e = add-one n ∙ ap suc e
 
-pub monitored : (b b′ : List ℕ) (n : ℕ) → IsStored b → T (not (monitorsUsedUp (decode b))) → n ≡ (decode b) .monitors → b′ ≡ over b monitorsAt (bigEndian countWidth (n + 1)) countWidth
+pub monitored : (b b′ : List ℕ) (n : ℕ) → IsStored b → T (not (monitorsUsedUp (decode b))) → n ≡ (decode b) .monitors → b′ ≡ withRow monitorsPart (n + 1) b
     → Stored b′ (withMonitors (decode b) (nextMonitor (decode b)))
-monitored b b′ n h t en e =
-    let s : Run = decode b in
-    monitors-changed b b′ s (nextMonitor s) h (monitored-fit s (h .fit) t) (rw (next-monitor s n en) at e)
+monitored b b′ n h t en e = monitors-changed h (monitored-fit (decode b) (h .fit) t) (rw (next-monitor (decode b) n en) at e)

@@ -4,18 +4,15 @@ use Prim.Native.Nat.{ℕ, _+_, _-_}
 use mathlib.Core.Bool.{Bool}
 use mathlib.Core.List.{List, [], _∷_, _++_}
 use lib.ListN.{length}
-use borrow.Rule.Slice.PartMut.{putMid}
 use Rattle.basis.specs.Lists.{keep, removeAt}
 use Rattle.basis.specs.ListLaws.{keep-in}
-use Rattle.basis.specs.Numbers.{bigEndian}
-use Rattle.basis.specs.Sizes.{countWidth, waitingCountAt, waitingAllSize, waitingAt}
 use Rattle.model.specs.Statement.{Statement}
 use Rattle.model.specs.Run.{Waiting, Run, withWaiting}
 use Rattle.model.specs.Fit.{Queue, Fit}
 use Rattle.model.specs.Effects.{queue-keep, queue-removeAt}
 use Rattle.layout.specs.States.{decode}
 use Rattle.layout.specs.Stored.{Stored, IsStored}
-use Rattle.words.specs.Over.{over}
+use Rattle.header.specs.Rows.{waitingCountPart, waitingPart, withRow, withPart}
 use Rattle.queue.specs.Queue.{waitingOf, Queued, ofOther, waits}
 use Rattle.lent.specs.Sections.{queueLent, queue-read}
 use Rattle.state.specs.Meaning.{enqueued}
@@ -34,12 +31,12 @@ left-fit s i f = with-queue s (removeAt i (s .waiting)) f (queue-removeAt (s .la
 
 -- ---- what the code leaves, where x is the section that comes back
 
-module _ (b x b′ : List ℕ) (n m : ℕ) (h : IsStored b) (e : n ≡ length ((decode b) .waiting)) (stored : b′ ≡ over (putMid waitingAt waitingAllSize b x) waitingCountAt (bigEndian countWidth m) countWidth) where
+module _ {b x b′ : List ℕ} {n m : ℕ} (h : IsStored b) (e : n ≡ length ((decode b) .waiting)) (put : b′ ≡ withRow waitingCountPart m (withPart waitingPart b x)) where
   pub leaves : (i : ℕ) → Queued x m (removeAt i (waitingOf (queueLent b) n)) → Stored b′ (withWaiting (decode b) (removeAt i ((decode b) .waiting)))
-  leaves i q = waiting-changed b x b′ (decode b) m (removeAt i ((decode b) .waiting)) h (rw (queue-read b n h e) at q) (left-fit (decode b) i (h .fit)) stored
+  leaves i q = waiting-changed h (rw (queue-read b n h e) at q) (left-fit (decode b) i (h .fit)) put
 
   pub drops : (host : ℕ) → Queued x m (keep (ofOther host) (waitingOf (queueLent b) n)) → Stored b′ (withWaiting (decode b) (keep (ofOther host) ((decode b) .waiting)))
-  drops host q = waiting-changed b x b′ (decode b) m (keep (ofOther host) ((decode b) .waiting)) h (rw (queue-read b n h e) at q) (kept-fit (decode b) (ofOther host) (h .fit)) stored
+  drops host q = waiting-changed h (rw (queue-read b n h e) at q) (kept-fit (decode b) (ofOther host) (h .fit)) put
 
-  pub enqueues : (last : ℕ) (st : Statement) → last ≡ (decode b) .last → Fit (enqueued (decode b) st) → Queued x m (waitingOf (queueLent b) n ++ (waits last st ∷ [])) → Stored b′ (enqueued (decode b) st)
-  enqueues last st el f q = waiting-changed b x b′ (decode b) m ((decode b) .waiting ++ (waits ((decode b) .last) st ∷ [])) h (rw (queue-read b n h e, el) at q) f stored
+  pub enqueues : {last : ℕ} (st : Statement) → last ≡ (decode b) .last → Fit (enqueued (decode b) st) → Queued x m (waitingOf (queueLent b) n ++ (waits last st ∷ [])) → Stored b′ (enqueued (decode b) st)
+  enqueues st el f q = waiting-changed h (rw (queue-read b n h e, el) at q) f put

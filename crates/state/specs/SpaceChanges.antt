@@ -6,11 +6,10 @@ use mathlib.Core.Bool.{Bool, true, not, _||_}
 use mathlib.Core.List.{List, [], _∷_, _++_}
 use lib.ListN.{length, set}
 use lib.Dec.{T, eqb, leb, nleb→lt}
-use borrow.Rule.Slice.PartMut.{putMid}
 use Rattle.basis.specs.Logic.{or-no, is-true, and-l, and-r}
 use Rattle.basis.specs.Lists.{all, keep}
 use Rattle.basis.specs.Numbers.{bigEndian}
-use Rattle.basis.specs.Sizes.{countWidth, nextWidth, processes, mostSpaces, spaceNumbers, nextAt, spaceCountAt, spaceSize, spacesSize, spacesAt}
+use Rattle.basis.specs.Sizes.{countWidth, nextWidth, processes, mostSpaces, spaceNumbers, spaceSize, spacesSize}
 use Rattle.model.specs.Matching.{Tuple}
 use Rattle.model.specs.Run.{Space, Run, withSpaces, withTuples}
 use Rattle.model.specs.Step.{someWaitingNames, opened, closed}
@@ -18,14 +17,12 @@ use Rattle.model.specs.Fit.{Fit}
 use Rattle.model.specs.Effects.{opened-fit, closed-fit}
 use Rattle.layout.specs.States.{spaceBytes, area, decode}
 use Rattle.layout.specs.Stored.{Stored, IsStored}
-use Rattle.words.specs.Over.{over}
-use Rattle.sections.specs.Parts.{placeIn}
-use Rattle.header.specs.Rows.{partsOf, Cut, nextPart, spaceCountPart, spacesPart}
-use Rattle.header.specs.RowLaws.{stored-parts, parts-stored, one-byte}
+use Rattle.header.specs.Rows.{partsOf, nextPart, spaceCountPart, spacesPart, Cut, withRow, withPart}
+use Rattle.header.specs.RowLaws.{stored-parts, parts-stored, one-byte, row-written, section-written}
 use Rattle.spaces.specs.Spaces.{spaceShape, spacesOf, Listed, otherThan, opening}
 use Rattle.lent.specs.Sections.{spacesLent, spaces-read}
 use Rattle.tuples.specs.Section.{outside}
-use Rattle.state.specs.Changes.{row-written, section-written, spaces-changed}
+use Rattle.state.specs.Changes.{spaces-changed}
 
 -- ---- MS
 
@@ -39,20 +36,20 @@ room s t =
     let k = or-no (leb mostSpaces (length (s .spaces))) (leb spaceNumbers (s .next)) t in
     record { few = nleb→lt mostSpaces (length (s .spaces)) (k .0); number = nleb→lt spaceNumbers (s .next) (k .1) }
 
-pub opens : (b x b₁ b₂ : List ℕ) (n m p : ℕ) (owned : Bool) → IsStored b → T (not (leb mostSpaces (length ((decode b) .spaces)) || leb spaceNumbers ((decode b) .next))) → p < processes
+pub opens : {b x b₁ b₂ : List ℕ} {n m : ℕ} (p : ℕ) (owned : Bool) → IsStored b → T (not (leb mostSpaces (length ((decode b) .spaces)) || leb spaceNumbers ((decode b) .next))) → p < processes
     → n ≡ length ((decode b) .spaces) → m ≡ (decode b) .next → Listed x (n + 1) (spacesOf (spacesLent b) n ++ (opening m p owned ∷ []))
-    → b₁ ≡ over (putMid spacesAt spacesSize b x) spaceCountAt (bigEndian countWidth (n + 1)) countWidth → b₂ ≡ over b₁ nextAt (bigEndian nextWidth (m + 1)) nextWidth → Stored b₂ (opened (decode b) p owned)
-unfolding placeIn partsOf opened
-opens b x b₁ b₂ n m p owned h t small en em q one two =
+    → b₁ ≡ withRow spaceCountPart (n + 1) (withPart spacesPart b x) → b₂ ≡ withRow nextPart (m + 1) b₁ → Stored b₂ (opened (decode b) p owned)
+unfolding partsOf opened
+opens {b} {x} {b₁} {b₂} {n} {m} p owned h t small en em q one two =
     let s : Run = decode b in
     let ss : List Space = s .spaces ++ (opening (s .next) p owned ∷ []) in
     let f : Fit (withSpaces s (suc (s .next)) ss) = opened-fit s (h .fit) p owned small t in
     let k : Listed x (n + 1) ss = rw (spaces-read b n h en, em) at q in
     let step : m + 1 ≡ suc (s .next) = omega arith in
     let counted : Cut b₁ (set (set (partsOf s) spacesPart (area spacesSize spaceSize spaceBytes ss)) spaceCountPart (bigEndian countWidth (length ss))) =
-    section-written spaceShape b x b₁ (partsOf s) (stored-parts b s h) spacesPart spaceCountPart (omega arith) (omega arith) refl (n + 1) ss k one in
+    rw one (section-written spaceShape b x (partsOf s) (stored-parts b s h) spacesPart spaceCountPart (omega arith) (omega arith) refl (n + 1) ss k) in
     let all : Cut b₂ (set (set (set (partsOf s) spacesPart (area spacesSize spaceSize spaceBytes ss)) spaceCountPart (bigEndian countWidth (length ss))) nextPart (bigEndian nextWidth (m + 1))) =
-    row-written b₁ b₂ _ counted nextPart (omega arith) (m + 1) two in
+    rw two (row-written b₁ _ counted nextPart (omega arith) (m + 1)) in
     parts-stored b₂ (withSpaces s (suc (s .next)) ss) (rw (one-byte (length ss) (omega (arith, f .spaces .few)), step) at all) f
 
 -- ---- DS
@@ -69,8 +66,7 @@ empty-fit : (s : Run) (n : ℕ) → Fit s → T (all (outside n) (s .tuples)) �
 unfolding closed
 empty-fit s n f e t = subst (λ (ts : List Tuple). Fit (withTuples (withSpaces s (s .next) (keep (otherThan n) (s .spaces))) ts)) (keep-all (outside n) (s .tuples) e) (closed-fit s f n t)
 
-pub unlists : (b x b′ : List ℕ) (n left m : ℕ) → IsStored b → T (all (outside m) ((decode b) .tuples)) → T (not (eqb m 0 || someWaitingNames (decode b) m)) → n ≡ length ((decode b) .spaces)
-    → Listed x left (keep (otherThan m) (spacesOf (spacesLent b) n)) → b′ ≡ over (putMid spacesAt spacesSize b x) spaceCountAt (bigEndian countWidth left) countWidth
+pub unlists : {b x b′ : List ℕ} {n left : ℕ} (m : ℕ) → IsStored b → T (all (outside m) ((decode b) .tuples)) → T (not (eqb m 0 || someWaitingNames (decode b) m)) → n ≡ length ((decode b) .spaces)
+    → Listed x left (keep (otherThan m) (spacesOf (spacesLent b) n)) → b′ ≡ withRow spaceCountPart left (withPart spacesPart b x)
     → Stored b′ (withSpaces (decode b) ((decode b) .next) (keep (otherThan m) ((decode b) .spaces)))
-unlists b x b′ n left m h empty t e q stored =
-    spaces-changed b x b′ (decode b) left (keep (otherThan m) ((decode b) .spaces)) h (rw (spaces-read b n h e) at q) (empty-fit (decode b) m (h .fit) empty t) stored
+unlists {b} {n = n} m h empty t e q put = spaces-changed h (rw (spaces-read b n h e) at q) (empty-fit (decode b) m (h .fit) empty t) put

@@ -7,12 +7,10 @@ use mathlib.Core.Bool.{Bool, true}
 use mathlib.Core.List.{List, [], _∷_, _++_, map, append-assoc, append-nil}
 use lib.ListN.{length, length-append, length-map}
 use lib.Dec.{T, ltb, lt→ltb, lit≤}
-use borrow.Rule.Slice.PartMut.{putMid}
 use Rattle.basis.specs.Logic.{both}
 use Rattle.basis.specs.Lists.{keep, countFrom}
 use Rattle.basis.specs.ListLaws.{each-nil, each-cons, each-append, keep-in, keep-few, countFrom-length}
-use Rattle.basis.specs.Numbers.{bigEndian}
-use Rattle.basis.specs.Sizes.{tupleCountWidth, hosts, positions, mostMonitors, mostTuples, tupleCountAt, valueSize, tupleValuesAt, tuplesSize, tuplesAt}
+use Rattle.basis.specs.Sizes.{hosts, positions, mostMonitors, mostTuples, valueSize, tupleValuesAt, failureFields}
 use Rattle.model.specs.Value.{value, whole, name, legalValue}
 use Rattle.model.specs.Writing.{valueBytes}
 use Rattle.model.specs.Matching.{Tuple}
@@ -26,6 +24,7 @@ use Rattle.layout.specs.States.{tupleRead, decode}
 use Rattle.layout.specs.Stored.{Stored, IsStored}
 use Rattle.words.specs.Over.{over}
 use Rattle.sections.specs.Shapes.{holds-read}
+use Rattle.header.specs.Rows.{tupleCountPart, tuplesPart, withRow, withPart}
 use Rattle.tuples.specs.Section.{Legal, entryBytes, tupleShape, tuplesOf, Holds, Section, outside}
 use Rattle.tuples.specs.Entry.{Entry, begun}
 use Rattle.tuples.specs.EntryLaws.{entry-of, entry-read, begun-more, begun-all}
@@ -62,13 +61,13 @@ failure-lawful h m a b = (
 )
 
 -- its three values, one after the other
-pub failure-written : (h m : ℕ) (d₀ d₁ d₂ d₃ : List ℕ) → d₀ ≡ begun 0 3 [] → d₁ ≡ over d₀ (tupleValuesAt + 0 * valueSize) (valueBytes (value name 1)) valueSize
+pub failure-written : (h m : ℕ) (d₀ d₁ d₂ d₃ : List ℕ) → d₀ ≡ begun 0 failureFields [] → d₁ ≡ over d₀ (tupleValuesAt + 0 * valueSize) (valueBytes (value name 1)) valueSize
     → d₂ ≡ over d₁ (tupleValuesAt + 1 * valueSize) (valueBytes (value whole m)) valueSize → d₃ ≡ over d₂ (tupleValuesAt + 2 * valueSize) (valueBytes (value whole h)) valueSize → d₃ ≡ entryBytes (failureTuple h m)
 unfolding failureTuple
 failure-written h m d₀ d₁ d₂ d₃ none one two three =
-    let first : d₁ ≡ begun 0 3 (value name 1 ∷ []) = begun-more 0 3 [] d₀ d₁ 0 (value name 1) none refl (omega arith) one in
-    let second : d₂ ≡ begun 0 3 (value name 1 ∷ value whole m ∷ []) = begun-more 0 3 (value name 1 ∷ []) d₁ d₂ 1 (value whole m) first refl (omega arith) two in
-    begun-more 0 3 (value name 1 ∷ value whole m ∷ []) d₂ d₃ 2 (value whole h) second refl (omega arith) three ∙ begun-all 0 (value name 1 ∷ value whole m ∷ value whole h ∷ [])
+    let first : d₁ ≡ begun 0 failureFields (value name 1 ∷ []) = begun-more 0 failureFields [] d₀ d₁ 0 (value name 1) none refl (omega arith) one in
+    let second : d₂ ≡ begun 0 failureFields (value name 1 ∷ value whole m ∷ []) = begun-more 0 failureFields (value name 1 ∷ []) d₁ d₂ 1 (value whole m) first refl (omega arith) two in
+    begun-more 0 failureFields (value name 1 ∷ value whole m ∷ []) d₂ d₃ 2 (value whole h) second refl (omega arith) three ∙ begun-all 0 (value name 1 ∷ value whole m ∷ value whole h ∷ [])
 
 pub failure-entry : (h m : ℕ) (d : List ℕ) → h < positions → m < positions → d ≡ entryBytes (failureTuple h m) → Entry d
 failure-entry h m d a b e = entry-of d (failureTuple h m) (failure-lawful h m a b) e
@@ -114,14 +113,13 @@ failures-count h m = length-map (countFrom m 1) (failureTuple h) ∙ countFrom-l
 
 -- ---- what the code leaves, where x is the section that comes back
 
-module _ (b x b′ : List ℕ) (n m : ℕ) (h : IsStored b) (e : n ≡ length ((decode b) .tuples)) (stored : b′ ≡ over (putMid tuplesAt tuplesSize b x) tupleCountAt (bigEndian tupleCountWidth m) tupleCountWidth) where
+module _ {b x b′ : List ℕ} {n m : ℕ} (h : IsStored b) (e : n ≡ length ((decode b) .tuples)) (put : b′ ≡ withRow tupleCountPart m (withPart tuplesPart b x)) where
   pub clears : (space : ℕ) → Holds x m (keep (outside space) (tuplesOf (tuplesLent b) n)) → Stored b′ (withTuples (decode b) (keep (outside space) ((decode b) .tuples)))
-  clears space k = tuples-changed b x b′ (decode b) m (keep (outside space) ((decode b) .tuples)) h (rw (tuples-read b n h e) at k) (kept-fit (decode b) (outside space) (h .fit)) stored
+  clears space k = tuples-changed h (rw (tuples-read b n h e) at k) (kept-fit (decode b) (outside space) (h .fit)) put
 
   pub fails : (host monitors : ℕ) → host < hosts → monitors ≡ (decode b) .monitors → length ((decode b) .tuples) + length (failureTuples (decode b) host) ≤ mostTuples
       → Holds x m (tuplesOf (tuplesLent b) n ++ failures host monitors) → Stored b′ (withTuples (decode b) ((decode b) .tuples ++ failureTuples (decode b) host))
-  fails host monitors low em room k =
-      tuples-changed b x b′ (decode b) m ((decode b) .tuples ++ failureTuples (decode b) host) h (rw (tuples-read b n h e, failures-are (decode b) host monitors em) at k) (failed-fit (decode b) host (h .fit) low room) stored
+  fails host monitors low em room k = tuples-changed h (rw (tuples-read b n h e, failures-are (decode b) host monitors em) at k) (failed-fit (decode b) host (h .fit) low room) put
 
 -- what the appending of the failure tuples asks
 pub record Counts (b : List ℕ) (n m : ℕ) : Type 0 where

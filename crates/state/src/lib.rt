@@ -34,7 +34,7 @@ pub fn recover(state: &mut [u8], host: u8)
     ensures { λ _. ⌜ Stored (now (state .exit)) (recovered (decode (now (state .entry))) host) ⌝ }
 {
     let up = header::hosts(state);
-    header::set_hosts(state, values::with_host(up, host));
+    header::set_hosts(state, hosts::with_host(up, host));
 }
 
 // "CR removes it", once no statement of the host waits.
@@ -43,7 +43,7 @@ fn host_down(state: &mut [u8], host: u8)
     ensures { λ _. ⌜ Stored (now (state .exit)) (withUp (decode (now (state .entry))) (set ((decode (now (state .entry))) .up) host false)) ⌝ }
 {
     let up = header::hosts(state);
-    header::set_hosts(state, values::without_host(up, host));
+    header::set_hosts(state, hosts::without_host(up, host));
 }
 
 // "MO adds one to the count"; the new number.
@@ -131,7 +131,7 @@ fn close_entry(state: &mut [u8], space: u16)
 fn failure_tuple(host: u8, monitor: u32) -> [u8; words::TUPLE]
     ensures { λ r. ⌜ r ≡ entryBytes (failureTuple host monitor) ⌝ }
 {
-    let mut tuple = tuples::begin_entry(0, 3);
+    let mut tuple = tuples::begin_entry(0, words::FAILURE_FIELDS);
     tuples::put_value(&mut tuple, 0, values::NAME, 1);
     tuples::put_value(&mut tuple, 1, values::WHOLE, monitor);
     tuples::put_value(&mut tuple, 2, values::WHOLE, host as u32);

@@ -10,27 +10,23 @@ use lib.ListN.{length, drop, getD}
 use lib.Dec.{leb, ltb}
 use borrow.Author.Tests.{lt-ltb, le-ltb, le-leb, lt-leb}
 use Rattle.basis.specs.Numbers.{numberAt}
-use Rattle.basis.specs.Sizes.{formWidth, kindWidth, variableWidth, bitsWidth, valueBitsAt, valueSize}
+use Rattle.basis.specs.Sizes.{formWidth, kindWidth, variableWidth, bitsWidth, valueBitsAt, valueSize, actualSize, formalSize, referenceSize, sumSize, anonymousSize, sumBitsAt}
 use Rattle.model.specs.Value.{Value, value}
 use Rattle.model.specs.Statement.{Field, actual, formal, reference, sum, difference, anonymous}
 use Rattle.model.specs.Reading.{Reader, _>>=_, refuse, byte, chosenBy, fieldValue, actualField, formalField, referenceField, sumField, anonymousField, field}
 use Rattle.statements.specs.At.{which, readAt, found, found-some, found-none, some-readAt, none-readAt}
 use Rattle.statements.specs.Fixed.{Fixed, fixed-byte, fixed-last, fixed-then, fixed-as, fixed-value}
 
--- forms 3 and 4: variable, kind, value
-abbrev pub sumSize : ℕ
-sumSize = variableWidth + valueSize
-
 -- the bytes of a field of a form, its form byte included; 0: there is no such form
 unfoldable pub widthOf : ℕ → ℕ
 widthOf form =
     getD
-    ((formWidth + valueSize)
-    ∷ (formWidth + kindWidth + variableWidth)
-    ∷ (formWidth + variableWidth)
-    ∷ (formWidth + sumSize)
-    ∷ (formWidth + sumSize)
-    ∷ (formWidth + kindWidth)
+    (actualSize
+    ∷ formalSize
+    ∷ referenceSize
+    ∷ sumSize
+    ∷ sumSize
+    ∷ anonymousSize
     ∷ [])
     form 0
 
@@ -41,8 +37,8 @@ fieldAfter form b at =
     (actual (value (getD b at 0) (numberAt (at + valueBitsAt) bitsWidth b))
     ∷ formal (getD b at 0) (getD b (at + kindWidth) 0)
     ∷ reference (getD b at 0)
-    ∷ sum (getD b at 0) (value (getD b (at + variableWidth) 0) (numberAt (at + (variableWidth + valueBitsAt)) bitsWidth b))
-    ∷ difference (getD b at 0) (value (getD b (at + variableWidth) 0) (numberAt (at + (variableWidth + valueBitsAt)) bitsWidth b))
+    ∷ sum (getD b at 0) (value (getD b (at + variableWidth) 0) (numberAt (at + sumBitsAt) bitsWidth b))
+    ∷ difference (getD b at 0) (value (getD b (at + variableWidth) 0) (numberAt (at + sumBitsAt) bitsWidth b))
     ∷ [])
     form (anonymous (getD b at 0))
 
@@ -62,13 +58,13 @@ fieldEnd b at = cond (fieldStands b at) (at + widthOf (getD b at 0)) 0
 abbrev rows : List (Reader Field)
 rows = actualField ∷ formalField ∷ referenceField ∷ sumField sum ∷ sumField difference ∷ anonymousField ∷ []
 
-fixed-sum : (made : ℕ → Value → Field) → Fixed (sumField made) sumSize (λ b at. made (getD b at 0) (value (getD b (at + variableWidth) 0) (numberAt (at + (variableWidth + valueBitsAt)) bitsWidth b)))
+fixed-sum : (made : ℕ → Value → Field) → Fixed (sumField made) (sumSize - formWidth) (λ b at. made (getD b at 0) (value (getD b (at + variableWidth) 0) (numberAt (at + sumBitsAt) bitsWidth b)))
 unfolding sumField
 fixed-sum made =
-    fixed-as _ sumSize _ _
+    fixed-as _ (sumSize - formWidth) _ _
     (fixed-then byte _ variableWidth valueSize (λ b at. getD b at 0) (λ x b at. made x (value (getD b at 0) (numberAt (at + valueBitsAt) bitsWidth b))) fixed-byte
     (λ x. fixed-last fieldValue (made x) valueSize (λ b at. value (getD b at 0) (numberAt (at + valueBitsAt) bitsWidth b)) fixed-value))
-    (λ b at. let e : at + variableWidth + valueBitsAt ≡ at + (variableWidth + valueBitsAt) = omega arith in rw e)
+    (λ b at. let e : at + variableWidth + valueBitsAt ≡ at + sumBitsAt = omega arith in rw e)
 
 -- what stands after a form byte has the form's width
 fixed-after : (form : ℕ) → 0 < widthOf form → Fixed (getD rows form refuse) (widthOf form - formWidth) (fieldAfter form)
@@ -94,7 +90,7 @@ no-row (suc (suc (suc (suc (suc zero))))) h = absurd (omega arith)
 no-row (suc (suc (suc (suc (suc (suc n)))))) h = refl
 
 -- by the forms of sums, and past the last form
-pub width-sum : (form : ℕ) → 3 ≤ form → form < 5 → widthOf form ≡ formWidth + sumSize
+pub width-sum : (form : ℕ) → 3 ≤ form → form < 5 → widthOf form ≡ sumSize
 unfolding widthOf
 width-sum zero l h = absurd (omega arith)
 width-sum (suc zero) l h = absurd (omega arith)

@@ -6,7 +6,7 @@ use mathlib.Core.Logic.{_⊎_, inl, inr}
 use mathlib.Core.List.{List}
 use lib.ListN.{getD}
 use Rattle.basis.specs.Numbers.{numberAt}
-use Rattle.basis.specs.Sizes.{formWidth, kindWidth, variableWidth, bitsWidth, valueBitsAt}
+use Rattle.basis.specs.Sizes.{formWidth, kindWidth, variableWidth, bitsWidth, valueBitsAt, sumBitsAt}
 use lib.Dec.{T, lt→ltb}
 use Rattle.statements.specs.At.{which}
 use Rattle.statements.specs.Fields.{widthOf, width-past, fieldAfter, fieldParts}
@@ -34,12 +34,12 @@ pub parts-reference : (b : List ℕ) (at : ℕ) → getD b at 0 ≡ 2 → fieldO
 unfolding fieldOf fieldParts fieldAfter
 parts-reference b at e = rw e
 
-pub parts-sum : (b : List ℕ) (at n : ℕ) → 3 ≤ getD b at 0 → getD b at 0 < 5 → n ≡ numberAt (at + formWidth + (variableWidth + valueBitsAt)) bitsWidth b
+pub parts-sum : (b : List ℕ) (at n : ℕ) → 3 ≤ getD b at 0 → getD b at 0 < 5 → n ≡ numberAt (at + formWidth + sumBitsAt) bitsWidth b
     → fieldOf (getD b at 0) (getD b (at + formWidth + variableWidth) 0) (getD b (at + formWidth) 0) n ≡ fieldParts b at
 unfolding fieldOf fieldParts fieldAfter
 parts-sum b at n l h e = rw e (go (getD b at 0) l h)
   where
-    go : (form : ℕ) → 3 ≤ form → form < 5 → fieldOf form (getD b (at + formWidth + variableWidth) 0) (getD b (at + formWidth) 0) (numberAt (at + formWidth + (variableWidth + valueBitsAt)) bitsWidth b) ≡ fieldAfter form b (at + formWidth)
+    go : (form : ℕ) → 3 ≤ form → form < 5 → fieldOf form (getD b (at + formWidth + variableWidth) 0) (getD b (at + formWidth) 0) (numberAt (at + formWidth + sumBitsAt) bitsWidth b) ≡ fieldAfter form b (at + formWidth)
     go zero l h = absurd (omega arith)
     go (suc zero) l h = absurd (omega arith)
     go (suc (suc zero)) l h = absurd (omega arith)

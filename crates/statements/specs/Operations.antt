@@ -7,11 +7,11 @@ use mathlib.Core.Logic.{_⊎_, inl, inr}
 use mathlib.Core.Option.{Option, none, some, Option·some-injective, Option·none-ne-some}
 use mathlib.Core.List.{List, [], _∷_}
 use lib.ListN.{length, take, drop, getD, List·getD-eq-default}
-use lib.Dec.{leb}
-use borrow.Author.Tests.{le-leb, lt-leb}
+use lib.Dec.{leb, ltb}
+use borrow.Author.Tests.{le-leb, lt-leb, lt-ltb, le-ltb}
 use Rattle.basis.specs.Choice.{maybe, provided}
 use Rattle.basis.specs.Numbers.{numberAt, number}
-use Rattle.basis.specs.Sizes.{codeWidth, countWidth, spaceWidth, mostFields}
+use Rattle.basis.specs.Sizes.{codeWidth, countWidth, spaceWidth, spacesWidth, spaceHead, spacesHead, mostFields}
 use Rattle.model.specs.Statement as model
 use Rattle.model.specs.Statement.{always, lookup, deposit, transfer}
 use Rattle.model.specs.Legal.{fieldsOf}
@@ -138,12 +138,12 @@ fields-few code from to b at count r c h e m k = rw (fields-from (operationOf co
 -- ---- the spaces of an operation
 
 -- one space, then the fields
-pub space-there : (code s : ℕ) (b : List ℕ) (at : ℕ) → at + spaceWidth ≤ length b → s ≡ numberAt at spaceWidth b
+space-there : (code s : ℕ) (b : List ℕ) (at : ℕ) → at + spaceWidth ≤ length b → s ≡ numberAt at spaceWidth b
     → passed fewFields (readAt (fieldsMade (operationOf code s 0)) b (at + spaceWidth)) ≡ passed fewFields (readAt (onSpace (λ x. operationOf code x 0)) b at)
 unfolding onSpace _>>=_ readAt
 space-there code s b at h e = rw (fixed-natural spaceWidth (omega arith) .enough b at h, e)
 
-pub space-short : (made : ℕ → List model.Field → model.Operation) (b : List ℕ) (at : ℕ) → length b < at + (spaceWidth + countWidth) → readAt (onSpace made) b at ≡ none
+space-short : (made : ℕ → List model.Field → model.Operation) (b : List ℕ) (at : ℕ) → length b < at + spaceHead → readAt (onSpace made) b at ≡ none
 unfolding onSpace _>>=_ counted readAt
 space-short made b at h = go (which (at + spaceWidth) (length b))
   where
@@ -152,14 +152,14 @@ space-short made b at h = go (which (at + spaceWidth) (length b))
     go (inr l) = rw (fixed-natural spaceWidth (omega arith) .short b at l)
 
 -- two spaces, then the fields
-pub spaces-there : (code from to : ℕ) (b : List ℕ) (at : ℕ) → at + (spaceWidth + spaceWidth) ≤ length b → from ≡ numberAt at spaceWidth b → to ≡ numberAt (at + spaceWidth) spaceWidth b
-    → passed fewFields (readAt (fieldsMade (operationOf code from to)) b (at + (spaceWidth + spaceWidth))) ≡ passed fewFields (readAt (onSpaces (operationOf code)) b at)
+spaces-there : (code from to : ℕ) (b : List ℕ) (at : ℕ) → at + spacesWidth ≤ length b → from ≡ numberAt at spaceWidth b → to ≡ numberAt (at + spaceWidth) spaceWidth b
+    → passed fewFields (readAt (fieldsMade (operationOf code from to)) b (at + spacesWidth)) ≡ passed fewFields (readAt (onSpaces (operationOf code)) b at)
 unfolding onSpaces _>>=_ readAt
 spaces-there code from to b at h e f =
-    let n : at + spaceWidth + spaceWidth ≡ at + (spaceWidth + spaceWidth) = omega arith in
+    let n : at + spaceWidth + spaceWidth ≡ at + spacesWidth = omega arith in
     rw (fixed-natural spaceWidth (omega arith) .enough b at (omega arith), fixed-natural spaceWidth (omega arith) .enough b (at + spaceWidth) (omega arith), n, e, f)
 
-pub spaces-short : (made : ℕ → ℕ → List model.Field → model.Operation) (b : List ℕ) (at : ℕ) → length b < at + (spaceWidth + spaceWidth + countWidth) → readAt (onSpaces made) b at ≡ none
+spaces-short : (made : ℕ → ℕ → List model.Field → model.Operation) (b : List ℕ) (at : ℕ) → length b < at + spacesHead → readAt (onSpaces made) b at ≡ none
 unfolding onSpaces _>>=_ readAt
 spaces-short made b at h = go (which (at + spaceWidth) (length b))
   where
@@ -167,7 +167,7 @@ spaces-short made b at h = go (which (at + spaceWidth) (length b))
     go (inl l) = rw (fixed-natural spaceWidth (omega arith) .enough b at l) (unfold onSpace _>>=_ readAt in space-short (made (numberAt at spaceWidth b)) b (at + spaceWidth) (omega arith))
     go (inr l) = rw (fixed-natural spaceWidth (omega arith) .short b at l)
 
--- ---- the reader of an operation, at a position
+-- ---- what is read after each code
 
 row-space : (code : ℕ) → 0 < code → code < 6 → getD rows code refuse ≡ onSpace (λ s. operationOf code s 0)
 unfolding operationOf
@@ -191,6 +191,62 @@ row-spaces (suc (suc (suc (suc (suc (suc zero)))))) l m = refl
 row-spaces (suc (suc (suc (suc (suc (suc (suc zero))))))) l m = refl
 row-spaces (suc (suc (suc (suc (suc (suc (suc (suc n)))))))) l m = absurd (omega arith)
 
+-- ---- the spaces of a code
+
+-- what is read after a code
+unfoldable pub afterCode : ℕ → Reader model.Operation
+afterCode code = getD rows code refuse
+
+-- the bytes of the spaces that it names, one or two
+unfoldable pub namedWidth : ℕ → ℕ
+namedWidth code = cond (ltb code 6) spaceWidth spacesWidth
+
+-- the second of them, from a position on; 0 where there is one
+unfoldable pub secondSpace : List ℕ → (at code : ℕ) → ℕ
+secondSpace b at code = cond (ltb code 6) 0 (numberAt (at + spaceWidth) spaceWidth b)
+
+pub width-one : (code : ℕ) → code < 6 → spaceWidth ≡ namedWidth code
+unfolding namedWidth
+width-one code l = rw (lt-ltb code 6 l)
+
+pub width-two : (code : ℕ) → 6 ≤ code → spacesWidth ≡ namedWidth code
+unfolding namedWidth
+width-two code l = rw (le-ltb code 6 l)
+
+module _ (b : List ℕ) (at code : ℕ) where
+  pub second-none : code < 6 → 0 ≡ secondSpace b at code
+  unfolding secondSpace
+  second-none l = rw (lt-ltb code 6 l)
+
+  pub second-there : (x : ℕ) → 6 ≤ code → x ≡ numberAt (at + spaceWidth) spaceWidth b → x ≡ secondSpace b at code
+  unfolding secondSpace
+  second-there x l e = rw (le-ltb code 6 l) e
+
+  module _ (some : 0 < code) (few : code < codes) where
+    pub after-short : length b < at + (namedWidth code + countWidth) → readAt (afterCode code) b at ≡ none
+    unfolding afterCode
+    after-short h = go (which 6 code)
+      where
+        go : (6 ≤ code) ⊎ (code < 6) → readAt (getD rows code refuse) b at ≡ none
+        go (inl l) = rw (row-spaces code l few) (spaces-short (operationOf code) b at (omega (arith, width-two code l)))
+        go (inr l) = rw (row-space code some l) (space-short (λ s. operationOf code s 0) b at (omega (arith, width-one code l)))
+
+    -- its spaces, then the fields
+    pub after-there : (from to : ℕ) → at + namedWidth code ≤ length b → from ≡ numberAt at spaceWidth b → to ≡ secondSpace b at code
+        → passed fewFields (readAt (fieldsMade (operationOf code from to)) b (at + namedWidth code)) ≡ passed fewFields (readAt (afterCode code) b at)
+    unfolding afterCode
+    after-there from to h e f = go (which 6 code)
+      where
+        go : (6 ≤ code) ⊎ (code < 6) → passed fewFields (readAt (fieldsMade (operationOf code from to)) b (at + namedWidth code)) ≡ passed fewFields (readAt (getD rows code refuse) b at)
+        go (inl l) =
+            let second : to ≡ numberAt (at + spaceWidth) spaceWidth b = f ∙ sym (second-there (numberAt (at + spaceWidth) spaceWidth b) l refl) in
+            rw (row-spaces code l few, ← width-two code l) (spaces-there code from to b at (omega (arith, width-two code l)) e second)
+        go (inr l) =
+            let none-there : to ≡ 0 = f ∙ sym (second-none l) in
+            rw (row-space code some l, ← width-one code l, none-there) (space-there code from b at (omega (arith, width-one code l)) e)
+
+-- ---- an operation at a position
+
 operation-from : (b : List ℕ) (at : ℕ) → at < length b → readAt operation b at ≡ readAt (getD rows (getD b at 0) refuse) b (at + codeWidth)
 unfolding operation chosenBy _>>=_ readAt
 operation-from b at h = rw (fixed-byte .enough b at (omega arith))
@@ -206,17 +262,10 @@ operation-always b at h e =
     let k : readAt operation b at ≡ some (always, at + codeWidth) = operation-from b at h ∙ rw e (some-readAt (give always) b (at + codeWidth) always (at + codeWidth) refl (omega arith)) in
     rw k
 
--- codes 1 to 5
-pub operation-space : (b : List ℕ) (at : ℕ) → at < length b → 0 < getD b at 0 → getD b at 0 < 6
-    → operationAt b at ≡ passed fewFields (readAt (onSpace (λ s. operationOf (getD b at 0) s 0)) b (at + codeWidth))
-unfolding operationAt
-operation-space b at h l m = ap (passed fewFields) (operation-from b at h ∙ ap (λ (p : Reader model.Operation). readAt p b (at + codeWidth)) (row-space (getD b at 0) l m))
-
--- codes 6 and 7
-pub operation-spaces : (b : List ℕ) (at : ℕ) → at < length b → 6 ≤ getD b at 0 → getD b at 0 < codes
-    → operationAt b at ≡ passed fewFields (readAt (onSpaces (operationOf (getD b at 0))) b (at + codeWidth))
-unfolding operationAt
-operation-spaces b at h l m = ap (passed fewFields) (operation-from b at h ∙ ap (λ (p : Reader model.Operation). readAt p b (at + codeWidth)) (row-spaces (getD b at 0) l m))
+-- what follows its code
+pub operation-after : (b : List ℕ) (at : ℕ) → at < length b → operationAt b at ≡ passed fewFields (readAt (afterCode (getD b at 0)) b (at + codeWidth))
+unfolding operationAt afterCode
+operation-after b at h = ap (passed fewFields) (operation-from b at h)
 
 -- no other code
 pub operation-none : (b : List ℕ) (at : ℕ) → at < length b → codes ≤ getD b at 0 → operationAt b at ≡ none

@@ -5,20 +5,26 @@ ghost use lib.ListN.{length, getD};
 ghost use mathlib.Core.Option.{none};
 ghost use Rattle.model.specs.Statement.{always};
 ghost use Rattle.basis.specs.Lists.{all};
-ghost use Rattle.basis.specs.Sizes.{mostFields};
-ghost use Rattle.model.specs.Reading.{field, several, onSpace, onSpaces};
+ghost use Rattle.basis.specs.Sizes.{mostFields, spacesWidth};
+ghost use Rattle.model.specs.Reading.{field, several};
 ghost use Rattle.statements.specs.At.{readAt, passed};
 ghost use Rattle.statements.specs.Flat.{codes, hasForm, fieldIs, fieldRead, fieldsRead, operationOf, operationIs, Reads, fewFields, operationAt};
-ghost use Rattle.statements.specs.Operations.{fieldsMade};
+ghost use Rattle.statements.specs.Operations.{fieldsMade, afterCode, namedWidth, secondSpace};
 ghost use Rattle.statements.specs.Fields.{widthOf, fieldParts, fieldEnd};
 ghost use lib.Dec.{T};
+use words::ACTUAL;
+use words::ANONYMOUS;
 use words::CODE_WIDTH;
 use words::COUNT_WIDTH;
 use words::FORM_WIDTH;
+use words::FORMAL;
 use words::KIND_WIDTH;
 use words::MOST_FIELDS;
+use words::REFERENCE;
 use words::SPACE_WIDTH;
-use words::VALUE;
+use words::SPACES_WIDTH;
+use words::SUM;
+use words::SUM_BITS_AT;
 use words::VALUE_BITS_AT;
 use words::VARIABLE_WIDTH;
 use words::size;
@@ -35,29 +41,6 @@ pub const TWO_SPACES: u8 = 6;
 pub const CODES: u8 = 8;
 
 pub const FORMS: u8 = 6;
-
-// The bytes of a field of each form: 0, kind, value; 1, kind, variable; 2, variable; 3 and 4, variable, kind, value; 5, kind.
-const ACTUAL: usize = FORM_WIDTH + VALUE;
-
-pub const FORMAL: usize = FORM_WIDTH + KIND_WIDTH + VARIABLE_WIDTH;
-
-pub const REFERENCE: usize = FORM_WIDTH + VARIABLE_WIDTH;
-
-const SUM: usize = FORM_WIDTH + VARIABLE_WIDTH + VALUE;
-
-pub const ANONYMOUS: usize = FORM_WIDTH + KIND_WIDTH;
-
-// Where the kind of a sum's value and its four bytes stand, after the form.
-const SUM_KIND_AT: usize = VARIABLE_WIDTH;
-
-const SUM_BITS_AT: usize = SUM_KIND_AT + VALUE_BITS_AT;
-
-// What stands before the fields, after the code: space and field count; from, to and field count.
-const SPACE_HEAD: usize = SPACE_WIDTH + COUNT_WIDTH;
-
-const SPACES_WIDTH: usize = SPACE_WIDTH + SPACE_WIDTH;
-
-const SPACES_HEAD: usize = SPACES_WIDTH + COUNT_WIDTH;
 
 // A field: its form, and the kind, variable and four bytes of a value that the form has; parts that it lacks are 0.
 #[repr(C)]
@@ -168,7 +151,7 @@ fn field_parts(b: &[u8], at: usize) -> Field
         },
         3 | 4 => Field {
             form,
-            kind: b[from + SUM_KIND_AT],
+            kind: b[from + VARIABLE_WIDTH],
             variable: first,
             bits: word4(b, from + SUM_BITS_AT),
         },
@@ -268,28 +251,41 @@ fn read_counted(b: &[u8], at: usize, code: u8, from: u16, to: u16) -> OperationR
     }
 }
 
-// Codes 1 to 5, after the code: space, field count, fields.
-fn read_on_space(b: &[u8], at: usize, code: u8) -> OperationRead
-    requires { ⌜ (0 < code) × (at ≤ length (now b)) × (code < codes) ⌝ }
-    ensures { λ r. ⌜ Reads r (passed fewFields (readAt (onSpace (λ s. operationOf code s 0)) (now (b .entry)) at)) ⌝ }
+// The bytes of the spaces that an operation of a code above 0 names.
+fn spaces_width(code: u8) -> usize
+    ensures { λ r. ⌜ (r ≡ namedWidth code) × (r ≤ spacesWidth) ⌝ }
 {
-    if b.len() - at < SPACE_HEAD {
-        return no_operation_read();
+    if code < TWO_SPACES {
+        SPACE_WIDTH
+    } else {
+        SPACES_WIDTH
     }
-    read_counted(b, at + SPACE_WIDTH, code, space_number(b, at), 0)
 }
 
-// Codes 6 and 7, after the code: from, to, field count, fields.
+// The second of two spaces that stand from a position on; 0 where the code has one.
+fn second_space(b: &[u8], at: usize, code: u8) -> u16
+    requires { ⌜ at + namedWidth code ≤ length (now b) ⌝ }
+    ensures { λ r. ⌜ r ≡ secondSpace (now (b .entry)) at code ⌝ }
+{
+    if code < TWO_SPACES {
+        return 0;
+    }
+    space_number(b, at + SPACE_WIDTH)
+}
+
+// Codes 1 to 7, after the code: space, or from and to; then field count and fields. One call reads the fields for all codes: what is
+// read is then put together in one place, and not copied from place to place.
 fn read_on_spaces(b: &[u8], at: usize, code: u8) -> OperationRead
     requires { ⌜ (0 < code) × (at ≤ length (now b)) × (code < codes) ⌝ }
-    ensures { λ r. ⌜ Reads r (passed fewFields (readAt (onSpaces (operationOf code)) (now (b .entry)) at)) ⌝ }
+    ensures { λ r. ⌜ Reads r (passed fewFields (readAt (afterCode code) (now (b .entry)) at)) ⌝ }
 {
-    if b.len() - at < SPACES_HEAD {
+    let width = spaces_width(code);
+    if b.len() - at < width + COUNT_WIDTH {
         return no_operation_read();
     }
     let from = space_number(b, at);
-    let to = space_number(b, at + SPACE_WIDTH);
-    read_counted(b, at + SPACES_WIDTH, code, from, to)
+    let to = second_space(b, at, code);
+    read_counted(b, at + width, code, from, to)
 }
 
 // The operation at a position: code 0, true, has no more bytes; 1 to 5 name a space, 6 and 7 two.
@@ -305,9 +301,6 @@ pub fn read_operation(b: &[u8], at: usize) -> OperationRead
             end: at + CODE_WIDTH,
             operation: no_operation(),
         };
-    }
-    if code < TWO_SPACES {
-        return read_on_space(b, at + CODE_WIDTH, code);
     }
     if code < CODES {
         return read_on_spaces(b, at + CODE_WIDTH, code);

@@ -1,4 +1,4 @@
-// A record on the bytes of a state: check 6, the checks from 7 on, its effect, then rule 7.
+// The call for a record: the checks 1 to 5, then a step on the bytes of a state: check 6, the checks from 7 on, the effect, rule 7.
 ghost use mathlib.Core.Path.{_≡_};
 ghost use mathlib.Core.Option.{none, some};
 ghost use Prim.Native.Nat.{suc, _≤_, _<_};
@@ -10,7 +10,8 @@ ghost use Rattle.model.specs.Legal.{legalBody};
 ghost use Rattle.model.specs.Step.{AG, guarded, checks, refused, unmet, effect, handled};
 ghost use Rattle.layout.specs.States.{decode};
 ghost use Rattle.layout.specs.Stored.{IsStored, Turned, statementOf};
-ghost use Rattle.calls.specs.Calls.{numberOf, stepBytes};
+ghost use Rattle.calls.specs.Calls.{numberOf, stepBytes, lent, answer, refusal, takeCall};
+ghost use Rattle.order.specs.Refusal.{numberOr0};
 ghost use Rattle.framing.specs.Marks.{markAt};
 ghost use Rattle.steps.specs.Asks.{asked, Later};
 use handling::Own;
@@ -117,4 +118,27 @@ pub fn step(state: &mut [u8], input: &[u8], out: &mut [u8]) -> usize
     let mark = framing::mark_of(input);
     handling::advance(state, input);
     ask(mark, state, &input[words::BODY_AT..], out)
+}
+
+// ---- the call
+
+// The number of the first of the checks 1 to 5 that fails, 0 where none does.
+fn turned_back(state: &[u8], input: &[u8], reply: &[u8]) -> u64
+    ensures { λ r. ⌜ r ≡ numberOr0 (refusal (lent (now (state .entry)) (now (input .entry)) (now (reply .entry)))) ⌝ }
+{
+    if !validation::is_state(state) {
+        return 1;
+    }
+    framing::refusal_at(header::last(state), input, reply)
+}
+
+// "1 to 5: the call changes no byte", "A taken call returns its reply byte count".
+pub fn take(state: &mut [u8], input: &[u8], reply: &mut [u8]) -> u64
+    ensures { λ r. ⌜ answer r (now (state .exit)) (now (reply .exit)) ≡ takeCall (lent (now (state .entry)) (now (input .entry)) (now (reply .entry))) ⌝ }
+{
+    let number = turned_back(state, input, reply);
+    if number != 0 {
+        return number;
+    }
+    step(state, input, reply) as u64
 }

@@ -62,6 +62,17 @@ headRoom = growth * replyHeaderSize
 abbrev pub mostDigits : ℕ
 mostDigits = 10
 
+-- a mark and the three digits of a byte, or the five of a process
+abbrev pub byteRoom : ℕ
+byteRoom = 1 + 3
+
+abbrev pub processRoom : ℕ
+processRoom = 1 + 5
+
+-- position, host and process
+abbrev pub sourceRoom : ℕ
+sourceRoom = mostDigits + byteRoom + processRoom
+
 -- "`refused n`": where its number stands, and room for the greatest
 abbrev pub refusedAt : ℕ
 refusedAt = 8

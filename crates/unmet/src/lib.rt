@@ -7,7 +7,7 @@ ghost use Rattle.model.specs.Run.{Run};
 ghost use Rattle.model.specs.Step.{unmet};
 ghost use Rattle.unmet.specs.Unmet.{answeredBy, Waits};
 
-// The number of the first of 18, "no guard is in or rd", and 13, "must wait, 32 wait", that refuses it; 0 where it waits.
+// 18 where it does not wait, since no guard is in or rd; 13, "must wait, 32 wait"; 0 where it waits.
 pub fn refusal(waits: bool, waiting: usize) -> u8
     ensures { λ r. ⌜ ((s : Run) (st : Statement) → canWait st ≡ waits → length (s .waiting) ≡ waiting → unmet s st ≡ answeredBy r s st) ⌝ }
     ensures { λ r. ⌜ (r ≡ 0 → Waits waits waiting) ⌝ }

@@ -24,7 +24,7 @@ use Rattle.layout.specs.States.{spaceBytes, tupleBytes, waitingBytes, area, byt
 use Rattle.layout.specs.IsState.{isState}
 use Rattle.layout.specs.StateLaws.{state-encode, state-valid}
 use Rattle.sections.specs.Shapes.{entries-length}
-use Rattle.sections.specs.Tests.{refused, same-test}
+use Rattle.scans.specs.Tests.{refused, same-test}
 use Rattle.header.specs.Whole.{headerLegal}
 use Rattle.header.specs.WholeLaws.{lent-says, Says, says-same, same-says, Header, legal-header, header-legal}
 use Rattle.tuples.specs.Section.{tuplesOf}
@@ -34,7 +34,8 @@ use Rattle.spaces.specs.LegalLaws.{legal-listed, legal-rising}
 use Rattle.queue.specs.Queue.{waitingOf, IsQueued}
 use Rattle.queue.specs.Legal.{otherProcess, queueLegal, inOrder}
 use Rattle.queue.specs.LegalLaws.{legal-queued}
-use Rattle.waiting.specs.Waits.{openToIt, mayWait, unready}
+use Rattle.waiting.specs.Waits.{openToIt, mayWait}
+use Rattle.oldest.specs.Searching.{unready}
 use Rattle.validation.specs.Validation.{spacesIn, tuplesIn, waitingIn, inOpen, tuplesLegal, waitsLegal, contentsLegal}
 
 -- ---- the counts

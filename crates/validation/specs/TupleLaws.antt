@@ -19,9 +19,10 @@ use Rattle.words.specs.Over.{zerosAt}
 use Rattle.sections.specs.Rows.{Section}
 use Rattle.sections.specs.RowLaws.{pieces-at, number-of-row, section-of, section-unused}
 use Rattle.sections.specs.Shapes.{Shape, Same, area-same, area-of}
-use Rattle.sections.specs.Tests.{all-map}
-use Rattle.tuples.specs.Section.{entryAt, tuplesOf}
+use Rattle.scans.specs.Tests.{all-map}
+use Rattle.tuples.specs.Section.{entryAt, tupleAt, tuplesOf}
 use Rattle.tuples.specs.Entry.{isEntry}
+use Rattle.tuples.specs.PlaceLaws.{space-at}
 use Rattle.spaces.specs.Spaces.{spacesOf}
 use Rattle.validation.specs.Validation.{rowOpen, inOpen, tuplesLegal}
 
@@ -39,9 +40,11 @@ module _ (q : List ℕ) (n : ℕ) (p : List ℕ) (m i : ℕ) (h : i < m) (r : Bo
   unfolding rowOpen
   no-tuple z = rw (entry-is ∙ z)
 
-  module _ (yes : r ≡ true) (x : ℕ) (t : Bool) (ex : x ≡ numberAt (i * tupleSize + 0) spaceWidth p) (et : t ≡ isOpen (spacesOf q n) x) where
+  module _ (yes : r ≡ true) (x : ℕ) (t : Bool) (ex : x ≡ (tupleAt p i) .space) (et : t ≡ isOpen (spacesOf q n) x) where
     open-here : isOpen (spacesOf q n) (numberAt 0 spaceWidth row) ≡ t
-    open-here = sym (et ∙ ap (isOpen (spacesOf q n)) (ex ∙ number-of-row m tupleSize p i 0 spaceWidth h (omega arith)))
+    open-here =
+        let at : i * tupleSize ≡ i * tupleSize + 0 = omega arith in
+        sym (et ∙ ap (isOpen (spacesOf q n)) (ex ∙ sym (space-at p i) ∙ ap (λ (k : ℕ). numberAt k spaceWidth p) at ∙ number-of-row m tupleSize p i 0 spaceWidth h (omega arith)))
 
     pub no-space : t ≡ false → rowOpen (spacesOf q n) row ≡ false
     unfolding rowOpen

@@ -16,7 +16,8 @@ use Rattle.spaces.specs.Spaces.{spacesOf}
 use Rattle.spaces.specs.Legal.{spacesLegal}
 use Rattle.queue.specs.Queue.{waitingOf}
 use Rattle.queue.specs.Legal.{otherProcess, queueLegal, inOrder}
-use Rattle.waiting.specs.Waits.{mayWait, unready}
+use Rattle.waiting.specs.Waits.{mayWait}
+use Rattle.oldest.specs.Searching.{unready}
 
 -- the sections of a state
 abbrev pub spacesIn : List ℕ → List ℕ

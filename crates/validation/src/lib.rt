@@ -21,17 +21,14 @@ fn rows_ok(tuples: &[u8], m: usize, spaces: &[u8], n: usize) -> bool
     requires { ⌜ (length (now tuples) ≡ tuplesSize) × (m ≤ mostTuples) × IsListed (now spaces) n × Rising (spacesOf (now spaces) n) ⌝ }
     ensures { λ r. ⌜ r ≡ all (rowOpen (spacesOf (now (spaces .entry)) n)) (pieces m tupleSize (now (tuples .entry))) ⌝ }
 {
-    let mut last = words::SPACE_NUMBERS;
     let mut i = 0;
     while i < m {
         if !wellformed::tuple_ok(tuples, i) {
             return false;
         }
-        let number = sections::field(tuples, words::TUPLE, m, i, 0, words::SPACE_WIDTH) as u16;
-        if !spaces::still_open(spaces, n, number, last) {
+        if !spaces::is_open(spaces, n, tuples::space(tuples, i)) {
             return false;
         }
-        last = number as u32;
         i += 1;
     }
     true
@@ -42,7 +39,7 @@ fn tuples_ok(tuples: &[u8], m: usize, spaces: &[u8], n: usize) -> bool
     requires { ⌜ (length (now tuples) ≡ tuplesSize) × (m ≤ mostTuples) × IsListed (now spaces) n × Rising (spacesOf (now spaces) n) ⌝ }
     ensures { λ r. ⌜ r ≡ tuplesLegal (spacesOf (now (spaces .entry)) n) (now (tuples .entry)) m ⌝ }
 {
-    if !sections::unused_zero(tuples, words::TUPLE, m) {
+    if !scans::unused_zero(tuples, words::TUPLE, m) {
         return false;
     }
     rows_ok(tuples, m, spaces, n)
@@ -70,11 +67,11 @@ fn waits_ok(b: &[u8], n: usize, m: usize, k: usize) -> bool
     ) {
         return false;
     }
-    waiting::none_ready(
-        &b[words::TUPLES_AT..words::TUPLES_END],
-        m,
+    oldest::none_ready(
         &b[words::WAITING_AT..words::WAITING_END],
         k,
+        &b[words::TUPLES_AT..words::TUPLES_END],
+        m,
     )
 }
 

@@ -3,7 +3,6 @@ use mathlib.Core.Path.{_≡_, refl, sym, ap, _∙_}
 use Prim.Native.Nat.{ℕ, _+_, _-_, _*_, _≤_, _<_}
 use native.Mathlib.Omega.{arith}
 use mathlib.Core.Bool.{Bool, true, false, not, _&&_, _||_}
-use mathlib.Core.Option.{some}
 use mathlib.Core.List.{List, [], _∷_, List·Memᴰ·head, List·Memᴰ·tail}
 use lib.ListN.{length, take, drop, getD}
 use lib.Dec.{T, leb, leb→le}
@@ -14,11 +13,10 @@ use Rattle.basis.specs.Choice.{isSome}
 use Rattle.basis.specs.Lists.{all, any, pieces}
 use Rattle.basis.specs.ListLaws.{Each}
 use Rattle.basis.specs.Numbers.{numberAt, bits}
-use Rattle.basis.specs.Sizes.{lengthWidth, hosts, mostBody, mostWaiting, waitingLengthAt, waitingBodyAt, waitingSize}
+use Rattle.basis.specs.Sizes.{lengthWidth, hosts, mostBody, waitingLengthAt, waitingBodyAt, waitingSize}
 use Rattle.model.specs.Statement.{Statement, spacesNamed}
-use Rattle.model.specs.Legal.{parse, legalBody}
-use Rattle.model.specs.Matching.{Tuple}
-use Rattle.model.specs.Execution.{ready, canWait}
+use Rattle.model.specs.Legal.{legalBody}
+use Rattle.model.specs.Execution.{canWait}
 use Rattle.model.specs.Run.{Space, Waiting, isOpen, isDenied}
 use Rattle.layout.specs.Stored.{statementOf, statement-of}
 use Rattle.sections.specs.Shapes.{holds-length}
@@ -28,7 +26,7 @@ use Rattle.queue.specs.Legal.{sizeIn, bodyFits, rowLegal}
 use Rattle.queue.specs.LegalLaws.{part-body}
 use Rattle.names.specs.Asks.{asks}
 use Rattle.names.specs.declared.Asked.the-variants.{Shut}
-use Rattle.waiting.specs.Waits.{openToIt, mayWait, unready}
+use Rattle.waiting.specs.Waits.{openToIt, mayWait}
 
 -- ---- a row
 
@@ -99,14 +97,3 @@ module _ (up host process : ℕ) (ss : List Space) (w : Waiting) (st : Statement
     pub then-can : s ≡ false → canWait st ≡ mayWait (bits hosts up) ss w
     unfolding mayWait
     then-can z = rw (host-is ∙ yes, named-is ∙ ap not z, es)
-
--- ---- whether it is ready
-
-pub ready-is : (ts : List Tuple) (st : Statement) (w : Waiting) (r : Bool) → st ≡ w .statement → r ≡ ready ts st → r ≡ ready ts (w .statement)
-ready-is ts st w r e f = f ∙ ap (ready ts) e
-
-pub is-unready : (ts : List Tuple) (w : Waiting) (r : Bool) → r ≡ ready ts (w .statement) → r ≡ false → unready ts w ≡ true
-is-unready ts w r e f = rw (sym e ∙ f)
-
-pub not-unready : (ts : List Tuple) (w : Waiting) (r : Bool) → r ≡ ready ts (w .statement) → r ≡ true → unready ts w ≡ false
-not-unready ts w r e f = rw (sym e ∙ f)

@@ -1,12 +1,10 @@
 -- What "The state buffer" asks of a waiting statement. Assumes nothing.
-use Prim.Native.Nat.{ℕ}
 use mathlib.Core.Bool.{Bool, false, not, _&&_}
 use mathlib.Core.List.{List}
 use lib.ListN.{getD}
 use Rattle.basis.specs.Lists.{all}
 use Rattle.model.specs.Statement.{spacesNamed}
-use Rattle.model.specs.Matching.{Tuple}
-use Rattle.model.specs.Execution.{ready, canWait}
+use Rattle.model.specs.Execution.{canWait}
 use Rattle.model.specs.Run.{Space, Waiting, isOpen, isDenied}
 
 -- "names only spaces open to that process"
@@ -16,7 +14,3 @@ openToIt ss w = all (λ n. isOpen ss n && not (isDenied ss (w .statement .proces
 -- "of an up host", the same, "has an in or rd guard"
 unfoldable pub mayWait : (up : List Bool) → List Space → Waiting → Bool
 mayWait up ss w = getD up (w .statement .host) false && (openToIt ss w && canWait (w .statement))
-
--- "no guard that holds"
-abbrev pub unready : List Tuple → Waiting → Bool
-unready ts w = not (ready ts (w .statement))

@@ -1,19 +1,16 @@
 // The statements that wait in a state: what "The state buffer" asks of each.
 ghost use mathlib.Core.Path.{_≡_};
 ghost use Prim.Native.Nat.{_*_, _≤_, _<_};
-ghost use mathlib.Core.Bool.{not};
 ghost use mathlib.Core.List.{[]};
 ghost use lib.ListN.{length, getD};
 ghost use Rattle.basis.specs.Lists.{all, pieces};
 ghost use Rattle.basis.specs.Numbers.{bits};
-ghost use Rattle.basis.specs.Sizes.{hosts, mostTuples, mostWaiting, waitingSize, waitingAllSize, tuplesSize};
-ghost use Rattle.model.specs.Execution.{ready};
-ghost use Rattle.tuples.specs.Section.{tuplesOf};
+ghost use Rattle.basis.specs.Sizes.{hosts, mostWaiting, waitingSize, waitingAllSize};
 ghost use Rattle.spaces.specs.Spaces.{spacesOf, IsListed, Rising};
 ghost use Rattle.queue.specs.Queue.{waitingOf, IsQueued};
 ghost use Rattle.queue.specs.PlaceLaws.{waitingNth};
 ghost use Rattle.queue.specs.Legal.{rowLegal, queueLegal};
-ghost use Rattle.waiting.specs.Waits.{mayWait, unready};
+ghost use Rattle.waiting.specs.Waits.{mayWait};
 use names::Asked;
 
 // ---- their section
@@ -51,7 +48,7 @@ pub fn is_queue(waiting: &[u8], n: usize) -> bool
     requires { ⌜ (length (now waiting) ≡ waitingAllSize) × (n ≤ mostWaiting) ⌝ }
     ensures { λ r. ⌜ r ≡ queueLegal (now (waiting .entry)) n ⌝ }
 {
-    if !sections::unused_zero(waiting, words::WAITING, n) {
+    if !scans::unused_zero(waiting, words::WAITING, n) {
         return false;
     }
     rows_ok(waiting, n)
@@ -64,7 +61,7 @@ fn may_wait(waiting: &[u8], n: usize, i: usize, spaces: &[u8], m: usize, up: u16
     requires { ⌜ IsQueued (now waiting) n × (i < n) × IsListed (now spaces) m × Rising (spacesOf (now spaces) m) ⌝ }
     ensures { λ r. ⌜ r ≡ mayWait (bits hosts up) (spacesOf (now (spaces .entry)) m) (waitingNth (now (waiting .entry)) n i) ⌝ }
 {
-    if !values::host_up(up, queue::host(waiting, n, i)) {
+    if !hosts::host_up(up, queue::host(waiting, n, i)) {
         return false;
     }
     let at = queue::body_at(i);
@@ -84,31 +81,6 @@ pub fn all_may_wait(waiting: &[u8], n: usize, spaces: &[u8], m: usize, up: u16) 
     let mut i = 0;
     while i < n {
         if !may_wait(waiting, n, i, spaces, m, up) {
-            return false;
-        }
-        i += 1;
-    }
-    true
-}
-
-// Whether a guard of the statement at index i holds.
-fn statement_ready(tuples: &[u8], t: usize, waiting: &[u8], n: usize, i: usize) -> bool
-    requires { ⌜ (length (now tuples) ≡ tuplesSize) × (t ≤ mostTuples) × IsQueued (now waiting) n × (i < n) ⌝ }
-    ensures { λ r. ⌜ r ≡ ready (tuplesOf (now (tuples .entry)) t) ((waitingNth (now (waiting .entry)) n i) .statement) ⌝ }
-{
-    let at = queue::body_at(i);
-    let len = queue::body_length(waiting, i);
-    guards::ready(tuples, t, &waiting[at..at + len])
-}
-
-// "no guard that holds".
-pub fn none_ready(tuples: &[u8], t: usize, waiting: &[u8], n: usize) -> bool
-    requires { ⌜ (length (now tuples) ≡ tuplesSize) × (t ≤ mostTuples) × IsQueued (now waiting) n ⌝ }
-    ensures { λ r. ⌜ r ≡ all (unready (tuplesOf (now (tuples .entry)) t)) (waitingOf (now (waiting .entry)) n) ⌝ }
-{
-    let mut i = 0;
-    while i < n {
-        if statement_ready(tuples, t, waiting, n, i) {
             return false;
         }
         i += 1;

@@ -2,7 +2,7 @@
 use mathlib.Core.Path.{_≡_, refl, sym, ap, _∙_}
 use mathlib.Core.Bool.{Bool, true, false, _&&_}
 use mathlib.Core.List.{List, [], _∷_, _++_, flatMap, foldl}
-use Prim.Native.Nat.{ℕ, zero, suc, _+_, _-_, _*_, _≤_, _<_}
+use Prim.Native.Nat.{ℕ, zero, suc, _+_, _-_, _*_, _^_, _≤_, _<_}
 use native.Mathlib.Omega.{arith}
 use lib.ListN.{length, take, drop, getD, length-drop}
 use lib.Seq.{take-add, drop-cons, drop-drop, drop-at, length-take-le}
@@ -13,7 +13,7 @@ use Rattle.basis.specs.Logic.{both, is-true, true-is}
 use Rattle.basis.specs.Lists.{all, zeros, sameBytes}
 use Rattle.basis.specs.ListLaws.{same-refl, same→eq}
 use Rattle.basis.specs.Numbers.{bigEndian, number, numberAt}
-use Rattle.basis.specs.NumberLaws.{bytes-take, bytes-drop, bigEndian-number}
+use Rattle.basis.specs.NumberLaws.{bytes-take, bytes-drop, bigEndian-number, numberAt-lt}
 use Rattle.basis.specs.PadLaws.{pad-split}
 use Rattle.basis.specs.Sizes.{spaceWidth, kindWidth, bitsWidth, mostFields, valueBitsAt, valueSize, fieldCountAt, tupleValuesAt, tupleSize}
 use Rattle.model.specs.Value.{Value, value, legalValue}
@@ -23,7 +23,7 @@ use Rattle.layout.specs.States.{tupleBytes}
 use Rattle.words.specs.Over.{zerosAt}
 use Rattle.words.specs.ZeroLaws.{and-true, zerosAt-one, zerosAt-add, zerosAt→zeros, zeros→zerosAt}
 use Rattle.tuples.specs.Section.{entryBytes, entryAt, tupleAt}
-use Rattle.tuples.specs.Entry.{isEntry, valueAt, valuesAt, valuesPlace, valuesIn, eachField}
+use Rattle.tuples.specs.Entry.{isEntry, valueAt, valuesAt, valuesPlace, valueIn, valuesIn, eachField}
 use Rattle.tuples.specs.PlaceLaws.{space-at, count-at, values-of}
 use Rattle.wellformed.specs.Fields.{isZero, fieldOk, fieldOkAt}
 
@@ -181,14 +181,24 @@ module _ (p : List ℕ) (bytes : T (areBytes p)) where
 
 -- ---- the tests of the code
 
-module _ (used : Bool) (v : Value) (k x : ℕ) (kind : k ≡ v .kind) (bits : x ≡ v .bits) where
-  pub field-used : (r : Bool) → used ≡ true → r ≡ legalValue (value k x) → r ≡ fieldOk used v
-  unfolding fieldOk
-  field-used r u e = rw u (e ∙ (λ i. legalValue (value (kind i) (bits i))))
+pub value-small : (p : List ℕ) (i f : ℕ) → ((k : ℕ) → getD p k 0 < 256) → (valueIn p i f) .bits < 2 ^ 32
+unfolding valueAt
+value-small p i f bytes = numberAt-lt (valuesPlace i + f * valueSize + valueBitsAt) bitsWidth p (bytes-of p bytes)
 
-  pub field-zero : used ≡ false → k ≡ 0 → eqb x 0 ≡ fieldOk used v
-  unfolding fieldOk isZero
-  field-zero u z = rw (u, eq-eqb (v .kind) 0 (sym kind ∙ z), bits)
+module _ (used : Bool) (v : Value) (k : ℕ) (kind : k ≡ v .kind) where
+  -- any four bytes are a whole number
+  pub field-whole : v .bits < 2 ^ 32 → used ≡ true → k ≡ 0 → true ≡ fieldOk used v
+  unfolding fieldOk legalValue
+  field-whole small u z = rw (u, ← kind, z, lt-ltb (v .bits) (2 ^ 32) small)
+
+  module _ (x : ℕ) (bits : x ≡ v .bits) where
+    pub field-used : (r : Bool) → used ≡ true → r ≡ legalValue (value k x) → r ≡ fieldOk used v
+    unfolding fieldOk
+    field-used r u e = rw u (e ∙ (λ i. legalValue (value (kind i) (bits i))))
+
+    pub field-zero : used ≡ false → k ≡ 0 → eqb x 0 ≡ fieldOk used v
+    unfolding fieldOk isZero
+    field-zero u z = rw (u, eq-eqb (v .kind) 0 (sym kind ∙ z), bits)
 
   pub field-kind : used ≡ false → (k ≡ 0 → ⊥) → false ≡ fieldOk used v
   unfolding fieldOk isZero

@@ -7,18 +7,21 @@ ghost use Rattle.tuples.specs.Section.{entryAt};
 ghost use Rattle.tuples.specs.Entry.{isEntry, valueIn, valuesIn, eachField};
 ghost use Rattle.wellformed.specs.Fields.{fieldOk, fieldOkAt};
 
-// Whether the value of field f of the row at index i is legal or, where the field is not used, zero.
+// Whether the value of field f of the row at index i is legal or, where the field is not used, zero. Its four bytes are read only where
+// they are asked for, since a read that many tests share is slow.
 fn field_ok(tuples: &[u8], i: usize, f: usize, used: bool) -> bool
     requires { ⌜ ((i + 1) * tupleSize ≤ length (now tuples)) × (f < mostFields) ⌝ }
     ensures { λ r. ⌜ r ≡ fieldOk used (valueIn (now (tuples .entry)) i f) ⌝ }
 {
     let kind = tuples::kind(tuples, i, f);
-    let bits = tuples::bits(tuples, i, f);
     if used {
-        return values::legal_value(kind, bits);
+        if kind == values::WHOLE {
+            return true;
+        }
+        return values::legal_value(kind, tuples::bits(tuples, i, f));
     }
     if kind == 0 {
-        return bits == 0;
+        return tuples::bits(tuples, i, f) == 0;
     }
     false
 }

@@ -9,6 +9,7 @@ use lib.ListN.{length, getD, set}
 use lib.Dec.{lit<}
 use Rattle.basis.specs.Numbers.{bigEndian, numberAt}
 use Rattle.basis.specs.NumberLaws.{bigEndian-length}
+use Rattle.basis.specs.Sizes.{mostWidth}
 use Rattle.words.specs.Over.{over}
 use Rattle.words.specs.OverLaws.{over-none, over-set, over-append, over-swap}
 use Rattle.words.specs.WordLaws.{numberAt-none, numberAt-more}
@@ -21,8 +22,8 @@ pub record Reading (s : List ℕ) (at n i : ℕ) : Type 0 where
 pub reading-start : (s : List ℕ) (at : ℕ) → Reading s at 0 0
 reading-start s at = record { number = sym (numberAt-none at s); below = lit< tt }
 
--- a number of three bytes or fewer leaves room for one more
-pub reading-room : (s : List ℕ) (at n i : ℕ) → Reading s at n i → i < 4 → n < 16777216
+-- a number that is not the widest leaves room for one byte more
+pub reading-room : (s : List ℕ) (at n i : ℕ) → Reading s at n i → i < mostWidth → n < 16777216
 reading-room s at n i h k = let m : 256 ^ i ≤ 256 ^ 3 = pow-le-pow-right (lit< tt) {i = i} {j = 3} (omega arith) in omega (arith, h .below)
 
 pub reading-more : (s : List ℕ) (at n i : ℕ) → Reading s at n i → at + i < length s → getD s (at + i) 0 < 256 → Reading s at (n * 256 + getD s (at + i) 0) (i + 1)

@@ -69,7 +69,7 @@ same-length-2 : tie.Need-same-length-2
 same-length-2 c = search needs
 
 returns : tie.Need-returns
-returns c = let called = c .before .before in rw (called .before .before .before .enum-told .given .1) (called .malformed .ensures)
+returns c = let called = c .before .before in rw (called .before .before .before .enum-told .given .1) (tt, called .malformed .ensures)
 
 same-length-3 : tie.Need-same-length-3
 same-length-3 c = search needs

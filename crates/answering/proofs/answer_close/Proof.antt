@@ -2,7 +2,7 @@
 use native.Mathlib.Omega.{arith}
 use Rattle.layout.specs.States.{decode}
 use Rattle.model.specs.Step.{Request, closeSpace, askingHost, askingProcess}
-use Rattle.handling.specs.AnswerLaws.{none-refuses, may-close, took, handled-refused}
+use Rattle.handling.specs.AnswerLaws.{none-refuses, may-close, took, was-refused}
 use borrow.Author.Needs.{needs}
 use Rattle.answering.proofs.answer_close.Statement.{statement}
 use Rattle.answering.proofs.answer_close.Tie as tie
@@ -35,7 +35,7 @@ returns c =
     let a = start m .args in
     let k = m .refuse-close in
     let d = c .before .before .refuse in
-    handled-refused (decode (a .state .now)) (request m) (k .result) (a .out .now) (a .state .now) (d .last .1 .1 .1 .1 .0) (d .result) (k .ensures) (test .if1 .taken) (d .ensures)
+    was-refused (decode (a .state .now)) (request m) (k .result) (a .out .now) (a .state .now) (d .last .1 .1 .1 .1 .0) (d .result) (k .ensures) (test .if1 .taken) (d .ensures)
 
 take-close-requires : tie.Need-take-close-requires
 take-close-requires c κs =

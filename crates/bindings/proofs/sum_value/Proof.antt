@@ -3,7 +3,7 @@ use borrow.Author.Needs.{needs}
 use mathlib.Core.Path.{sym}
 use Rattle.model.specs.Value.{value}
 use Rattle.values.specs.Meaning.{valueIs}
-use Rattle.values.specs.Answers as Answers
+use Rattle.sums.specs.Answers as Answers
 use Rattle.bindings.specs.Variables.{bindingsOf}
 use Rattle.bindings.specs.Making.{operands, sum-given, sum-refused}
 use Rattle.bindings.proofs.sum_value.Statement.{statement}

@@ -5,6 +5,7 @@ use native.Mathlib.Omega.{arith}
 use mathlib.Core.List.{_++_}
 use lib.ListN.{drop, length-append, length-drop}
 use lib.Seq.{length-take-le}
+use Rattle.basis.specs.Sizes.{bodyAt}
 use Rattle.cabinet.specs.ReadLaws.{counts-front, counts-mid}
 use borrow.Author.Needs.{needs}
 use Rattle.cabinet.proofs.read_record.Statement.{statement}
@@ -14,7 +15,7 @@ slice-relend-prefix-read-full : tie.Need-slice-relend-prefix-read-full
 slice-relend-prefix-read-full c = search needs
 
 slice-aggregate-read-full : tie.Need-slice-aggregate-read-full
-slice-aggregate-read-full c = let s = c .before .before in sym (length-take-le 8 (s .args .«record» .now) (omega (arith, s .pre)))
+slice-aggregate-read-full c = let s = c .before .before in sym (length-take-le bodyAt (s .args .«record» .now) (omega (arith, s .pre)))
 
 read-full-requires : tie.Need-read-full-requires
 read-full-requires c κs = search needs
@@ -26,7 +27,7 @@ returns : tie.Need-returns
 returns c =
     let f = c .before .before .before in
     let s = f .before .before .before in
-    counts-front (f .read-full .result) (f .read-full .last .1 .0) (drop 8 (s .args .«record» .now)) (f .read-full .ensures .0)
+    counts-front (f .read-full .result) (f .read-full .last .1 .0) (drop bodyAt (s .args .«record» .now)) (f .read-full .ensures .0)
 
 word2-requires : tie.Need-word2-requires
 word2-requires c κs = search needs
@@ -61,8 +62,8 @@ returns-2 c =
     let w = b .before .before in
     let f = w .before .before .before .before .before in
     let s = f .before .before .before in
-    let now = f .read-full .last .1 .0 ++ drop 8 (s .args .«record» .now) in
-    counts-mid 8 (8 + w .word2 .result - 8) (b .read-full2 .result) now (b .read-full2 .last .1 .0) (simp (length-append, length-drop) (omega (arith, s .pre))) (b .read-full2 .ensures .0)
+    let now = f .read-full .last .1 .0 ++ drop bodyAt (s .args .«record» .now) in
+    counts-mid bodyAt (bodyAt + w .word2 .result - bodyAt) (b .read-full2 .result) now (b .read-full2 .last .1 .0) (simp (length-append, length-drop) (omega (arith, s .pre))) (b .read-full2 .ensures .0)
 
 pub read-record-spec : {M : Type 1} → statement M
 read-record-spec =

@@ -1,13 +1,12 @@
 -- `effects::answer_up` meets its contract. Assumes nothing.
 use native.Mathlib.Omega.{arith}
-use Rattle.header.specs.RowLaws.{stored-length}
 use Rattle.effects.specs.EffectLaws.{up-answered}
 use borrow.Author.Needs.{needs}
 use Rattle.effects.proofs.answer_up.Statement.{statement}
 use Rattle.effects.proofs.answer_up.Tie as tie
 
 hosts-requires : tie.Need-hosts-requires
-hosts-requires c κs = omega (arith, stored-length _ _ (c .before .before .pre .0))
+hosts-requires c κs = omega arith
 
 hosts-up-requires : tie.Need-hosts-up-requires
 hosts-up-requires c κs = search needs
@@ -21,7 +20,7 @@ module _ (c : tie.After-hosts-up) where
   first = read .before .before .before
 
 last-requires : tie.Need-last-requires
-last-requires c κs = omega (arith, stored-length _ _ (first c .pre .0))
+last-requires c κs = omega arith
 
 number-reply-requires : tie.Need-number-reply-requires
 number-reply-requires c κs = first (c .before .before) .pre .1

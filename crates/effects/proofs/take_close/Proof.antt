@@ -1,6 +1,5 @@
 -- `effects::take_close` meets its contract. Assumes nothing.
 use native.Mathlib.Omega.{arith}
-use Rattle.header.specs.RowLaws.{stored-length}
 use Rattle.effects.specs.EffectLaws.{close-answered}
 use Rattle.effects.proofs.take_close.Statement.{statement}
 use Rattle.effects.proofs.take_close.Tie as tie
@@ -17,7 +16,7 @@ module _ (c : tie.After-last) where
   first = done .before .before .before .before
 
 last-requires : tie.Need-last-requires
-last-requires c κs = omega (arith, stored-length _ _ (c .before .before .before .close-space .ensures))
+last-requires c κs = omega arith
 
 plain-reply-requires : tie.Need-plain-reply-requires
 plain-reply-requires c κs = first (c .before) .pre .2

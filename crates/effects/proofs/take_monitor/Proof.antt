@@ -1,6 +1,5 @@
 -- `effects::take_monitor` meets its contract. Assumes nothing.
 use native.Mathlib.Omega.{arith}
-use Rattle.header.specs.RowLaws.{stored-length}
 use Rattle.effects.specs.EffectLaws.{monitor-answered}
 use Rattle.effects.proofs.take_monitor.Statement.{statement}
 use Rattle.effects.proofs.take_monitor.Tie as tie
@@ -17,7 +16,7 @@ module _ (c : tie.After-last) where
   first = done .before .before .before .before
 
 last-requires : tie.Need-last-requires
-last-requires c κs = omega (arith, stored-length _ _ (c .before .before .before .monitor .ensures .1))
+last-requires c κs = omega arith
 
 number-reply-requires : tie.Need-number-reply-requires
 number-reply-requires c κs = first (c .before) .pre .2

@@ -5,9 +5,10 @@ use Prim.Native.Nat.{_-_}
 use native.Mathlib.Omega.{arith}
 use denote.Ref.{now}
 use borrow.Author.Needs.{needs}
+use Rattle.basis.specs.NumberLaws.{bytes-of}
 use Rattle.model.specs.Statement.{Statement}
 use Rattle.model.specs.Legal.{parse}
-use Rattle.ends.specs.LastCount.{Reached, body-long, reached-start, reached-turn, reached-last, bytes-below}
+use Rattle.ends.specs.LastCount.{Reached, body-long, reached-start, reached-turn, reached-last}
 use Rattle.ends.proofs.last_count.Statement.{statement}
 use Rattle.ends.proofs.last_count.Tie as tie
 
@@ -40,7 +41,7 @@ loop-again c st e =
     let l = c .before .before in
     let n = l .before in
     let s = n .before .before .before in
-    reached-turn (now (s .args .b)) (n .size .result) st (l .loop .at) (l .loop .i) (c .branch-end .result) (bytes-below (now (s .args .b)) (λ k. n .before .before .shared-slice-known .given k .fits)) (c .before .loop-test .taken) (l .loop .inv st e) (c .branch-end .ensures)
+    reached-turn (now (s .args .b)) (n .size .result) st (l .loop .at) (l .loop .i) (c .branch-end .result) (bytes-of (now (s .args .b)) (λ k. n .before .before .shared-slice-known .given k .fits)) (c .before .loop-test .taken) (l .loop .inv st e) (c .branch-end .ensures)
 
 read-operation-requires : tie.Need-read-operation-requires Inv-loop μ-loop
 read-operation-requires c κs = search needs
@@ -50,7 +51,7 @@ returns c =
     let l = c .before .before in
     let n = l .before in
     let s = n .before .before .before in
-    reached-last (now (s .args .b)) (n .size .result) (l .loop .at) (l .loop .i) (c .read-operation .result) (bytes-below (now (s .args .b)) (λ k. n .before .before .shared-slice-known .given k .fits)) (s .pre) (c .before .loop-test .left) (l .loop .inv) (c .read-operation .ensures .is)
+    reached-last (now (s .args .b)) (n .size .result) (l .loop .at) (l .loop .i) (c .read-operation .result) (bytes-of (now (s .args .b)) (λ k. n .before .before .shared-slice-known .given k .fits)) (s .pre) (c .before .loop-test .left) (l .loop .inv) (c .read-operation .ensures .is)
 
 pub last-count-spec : {M : Type 1} → statement M
 last-count-spec =

@@ -6,7 +6,7 @@ use Prim.Native.Nat.{ℕ, suc, _+_, _-_, _≤_, _<_}
 use native.Mathlib.Omega.{arith}
 use mathlib.Core.Bool.{true}
 use mathlib.Core.List.{List}
-use lib.ListN.{length, getD}
+use lib.ListN.{getD}
 use denote.Ref.{now}
 use Rattle.basis.specs.Sizes.{countWidth, branchCountAt}
 use Rattle.model.specs.Execution.{isBlocking, canWait}
@@ -66,39 +66,43 @@ returns c = let r = c .before .before .before in yes r (guard-blocks (r .read-op
 returns-2 : tie.Need-returns-2 Inv-loop μ-loop
 returns-2 c = let r = c .before .before .before .before .before in yes r (guard-blocks (r .read-operation .result .operation) (inr (c .if2 .taken)))
 
+-- the guard that was read, where it is neither in nor rd
+abbrev passed : tie.Else2 Inv-loop μ-loop → tie.After-read-operation Inv-loop μ-loop
+passed c = c .before .before .before .before .before
+
 add-after-operations : tie.Need-add-after-operations Inv-loop μ-loop
 add-after-operations c =
-    let r = c .before .before .before .before .before in
+    let r = passed c in
     let l = here r .long in
     record { fits = omega (arith, body-of (start r) .short) }
 
 shared-slice-read-size : tie.Need-shared-slice-read-size Inv-loop μ-loop
-shared-slice-read-size c = here (c .before .before .before .before .before .before) .long
+shared-slice-read-size c = here (passed (c .before)) .long
 
 size-requires : tie.Need-size-requires Inv-loop μ-loop
 size-requires c κs = search needs
 
 after-operations-requires : tie.Need-after-operations-requires Inv-loop μ-loop
 after-operations-requires c κs =
-    let r = c .before .before .before .before .before .before .before in
+    let r = passed (c .before .before) in
     (subst (Stand (bytes r) (r .read-operation .result .end + countWidth)) (sym (c .size .ensures .0)) (here r .body), let l = here r .long in omega arith)
 
 add-i : tie.Need-add-i Inv-loop μ-loop
 add-i c =
-    let r = c .before .before .before .before .before .before .before .before in
+    let r = passed (c .before .before .before) in
     let f = few r in
     let byte : getD (bytes r) branchCountAt 0 < 256 = at r .before .shared-slice-known2 .given branchCountAt .fits in
     record { fits = omega arith }
 
 loop-less : tie.Need-loop-less Inv-loop μ-loop
 loop-less c =
-    let r = c .before .before .before .before .before .before .before .before in
+    let r = passed (c .before .before .before) in
     let f = few r in omega arith
 
 loop-again : tie.Need-loop-again Inv-loop μ-loop
 loop-again c =
     let test = c .before .before .before in
-    let r = test .before .before .before .before .before in
+    let r = passed test in
     let f = few r in
     let same : left r - 1 ≡ getD (bytes r) branchCountAt 0 - (at r .loop .i + 1) = omega arith in
     let passes = guard-passes (r .read-operation .result .operation) (here r .is-guard) (test .before .before .if1 .left) (test .if2 .left) in (

@@ -1,6 +1,5 @@
 -- `handling::refuse` meets its contract. Assumes nothing.
 use native.Mathlib.Omega.{arith}
-use Rattle.header.specs.RowLaws.{stored-length}
 use Rattle.handling.specs.AnswerLaws.{refused-turned}
 use borrow.Author.Needs.{needs}
 use Rattle.handling.proofs.refuse.Statement.{statement}
@@ -12,7 +11,7 @@ module _ (m : tie.After-last) where
   start = m .before .before .before .before
 
 last-requires : tie.Need-last-requires
-last-requires c κs = omega (arith, stored-length _ _ (c .before .before .before .pre .0))
+last-requires c κs = omega arith
 
 plain-reply-requires : tie.Need-plain-reply-requires
 plain-reply-requires c κs = search needs

@@ -5,6 +5,7 @@ use native.Mathlib.Omega.{arith}
 use lib.ListN.{length, set, length-set}
 use lib.Seq.{length-take-le}
 use Rattle.text.specs.Lines.{codes, newline, refusedLine}
+use Rattle.text.specs.Written.{refusedAt}
 use Rattle.digits.specs.Put.{Put}
 use Rattle.digits.specs.PutLaws.{number-few}
 use Rattle.lines.specs.WrittenLaws.{refused-put}
@@ -30,14 +31,14 @@ slice-write-out c =
     let p = c .before .before in
     let k = p .before .before .before .before in
     let s = k .before .before .before .before .before in
-    omega (arith, p .put-number .kept .0, k .copy-at .kept .0, number-few (s .args .n) (k .copy-at .last .0) (p .put-number .last .0) 8 (p .put-number .result) (search needs) (p .put-number .ensures))
+    omega (arith, p .put-number .kept .0, k .copy-at .kept .0, number-few (s .args .n) (k .copy-at .last .0) (p .put-number .last .0) refusedAt (p .put-number .result) (search needs) (p .put-number .ensures))
 
 add-result : tie.Need-add-result
 add-result c =
     let p = c .before .before in
     let k = p .before .before .before .before in
     let s = k .before .before .before .before .before in
-    omega (arith, number-few (s .args .n) (k .copy-at .last .0) (p .put-number .last .0) 8 (p .put-number .result) (search needs) (p .put-number .ensures))
+    omega (arith, number-few (s .args .n) (k .copy-at .last .0) (p .put-number .last .0) refusedAt (p .put-number .result) (search needs) (p .put-number .ensures))
 
 same-length : tie.Need-same-length
 same-length c =
@@ -57,7 +58,7 @@ returns-2 c =
     let same : length (p .put-number .last .0) ≡ length (a .out .now) = p .put-number .kept .0 ∙ k .copy-at .kept .0 in
     let text : Put (refusedLine (a .n)) (a .out .now) exit 0 (p .put-number .result + 1) =
     refused-put (a .out .now) (k .copy-at .last .0) (p .put-number .last .0) (a .n) (p .put-number .result) (omega arith) same (search needs) (k .copy-at .ensures) (p .put-number .ensures) in
-    let room : p .put-number .result + 1 ≤ length (a .out .now) = omega (arith, number-few (s .args .n) (k .copy-at .last .0) (p .put-number .last .0) 8 (p .put-number .result) (search needs) (p .put-number .ensures)) in
+    let room : p .put-number .result + 1 ≤ length (a .out .now) = omega (arith, number-few (s .args .n) (k .copy-at .last .0) (p .put-number .last .0) refusedAt (p .put-number .result) (search needs) (p .put-number .ensures)) in
     let most : p .put-number .result + 1 ≤ length exit = simp length-set (omega arith) in
     ((most, sym (length-take-le (p .put-number .result + 1) exit most)), (λ h. put-take (refusedLine (a .n)) (a .out .now) exit 0 (p .put-number .result + 1) room text, put-rest (refusedLine (a .n)) (a .out .now) exit 0 (p .put-number .result + 1) room text))
 

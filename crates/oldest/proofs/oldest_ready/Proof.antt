@@ -3,10 +3,12 @@ use Prim.Native.Nat.{_-_, _<_}
 use native.Mathlib.Omega.{arith}
 use mathlib.Core.Path.{sym, _∙_}
 use lib.ListN.{length}
+use Rattle.basis.specs.RestLaws.{first-more}
 use Rattle.sections.specs.Shapes.{items-length}
 use Rattle.tuples.specs.Section.{tuplesOf}
 use Rattle.queue.specs.Queue.{waitingShape, waitingOf}
-use Rattle.oldest.specs.Searching.{readyIn, Searching, searching-start, search-hit, search-miss, search-end}
+use Rattle.queue.specs.PlaceLaws.{noWaiting}
+use Rattle.oldest.specs.Searching.{readyIn, Searching, searching-start, search-hit, search-end}
 use borrow.Author.Needs.{needs}
 use Rattle.oldest.proofs.oldest_ready.Statement.{statement}
 use Rattle.oldest.proofs.oldest_ready.Tie as tie
@@ -50,7 +52,7 @@ loop-again : tie.Need-loop-again Inv-loop μ-loop
 loop-again c =
     let tried = c .before in
     let turn = tried .before in
-    search-miss _ _ _ (at turn .loop .inv) (below turn) (sym (tried .waiting-ready .ensures) ∙ c .if1 .left)
+    first-more _ (at turn .loop .inv) noWaiting (below turn) (sym (tried .waiting-ready .ensures) ∙ c .if1 .left)
 
 returns-2 : tie.Need-returns-2 Inv-loop μ-loop
 returns-2 c =

@@ -5,7 +5,6 @@ use mathlib.Core.List.{List}
 use Rattle.basis.specs.Lists.{any}
 use Rattle.model.specs.Run.{Waiting}
 use Rattle.model.specs.Step.{someWaitingNames}
-use Rattle.header.specs.RowLaws.{stored-length}
 use Rattle.lent.specs.Sections.{is-listed, is-rising, queue-read, is-queued}
 use Rattle.refusals.specs.Naming.{naming}
 use borrow.Author.Needs.{needs}
@@ -21,10 +20,10 @@ module _ (c : tie.After-space-count) where
   start = waiting .before .before
 
 waiting-count-requires : tie.Need-waiting-count-requires
-waiting-count-requires c κs = omega (arith, stored-length _ _ (c .before .pre))
+waiting-count-requires c κs = omega arith
 
 space-count-requires : tie.Need-space-count-requires
-space-count-requires c κs = omega (arith, stored-length _ _ (c .before .before .pre))
+space-count-requires c κs = omega arith
 
 sub-some-waiting-names : tie.Need-sub-some-waiting-names
 sub-some-waiting-names c = search needs
@@ -33,7 +32,7 @@ part-some-waiting-names-start : tie.Need-part-some-waiting-names-start
 part-some-waiting-names-start c = search needs
 
 part-some-waiting-names-end : tie.Need-part-some-waiting-names-end
-part-some-waiting-names-end c = omega (arith, stored-length _ _ (start c .pre))
+part-some-waiting-names-end c = omega arith
 
 sub-some-waiting-names-2 : tie.Need-sub-some-waiting-names-2
 sub-some-waiting-names-2 c = search needs
@@ -42,7 +41,7 @@ part-some-waiting-names-start-2 : tie.Need-part-some-waiting-names-start-2
 part-some-waiting-names-start-2 c = search needs
 
 part-some-waiting-names-end-2 : tie.Need-part-some-waiting-names-end-2
-part-some-waiting-names-end-2 c = omega (arith, stored-length _ _ (start (c .before) .pre))
+part-some-waiting-names-end-2 c = omega arith
 
 some-waiting-names-requires : tie.Need-some-waiting-names-requires
 some-waiting-names-requires c κs =

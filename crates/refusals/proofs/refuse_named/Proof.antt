@@ -3,7 +3,6 @@ use mathlib.Core.Path.{_≡_}
 use native.Mathlib.Omega.{arith}
 use borrow.Author.Tests.{not-true, not-false}
 use Rattle.layout.specs.States.{decode}
-use Rattle.header.specs.RowLaws.{stored-length}
 use Rattle.spaces.specs.Spaces.{spacesOf, IsListed, Rising}
 use Rattle.lent.specs.Sections.{spacesLent, spaces-read, is-listed, is-rising}
 use Rattle.refusals.specs.Naming.{let-in, found-closed, found-denied}
@@ -26,7 +25,7 @@ module _ (c : tie.After-space-count) where
   same = spaces-read (start .args .state .now) (c .space-count .result) (start .pre .0) (c .space-count .ensures .0)
 
 space-count-requires : tie.Need-space-count-requires
-space-count-requires c κs = omega (arith, stored-length _ _ (c .before .before .pre .0))
+space-count-requires c κs = omega arith
 
 sub-some-named : tie.Need-sub-some-named
 sub-some-named c = search needs
@@ -35,7 +34,7 @@ part-some-named-start : tie.Need-part-some-named-start
 part-some-named-start c = search needs
 
 part-some-named-end : tie.Need-part-some-named-end
-part-some-named-end c = omega (arith, stored-length _ _ (start c .pre .0))
+part-some-named-end c = omega arith
 
 some-named-requires : tie.Need-some-named-requires
 some-named-requires c κs = let count = c .before in (start count .pre .1, listed count, rising count)
@@ -53,7 +52,7 @@ part-some-named-start-2 : tie.Need-part-some-named-start-2
 part-some-named-start-2 c = search needs
 
 part-some-named-end-2 : tie.Need-part-some-named-end-2
-part-some-named-end-2 c = omega (arith, stored-length _ _ (start (c .before .before .before) .pre .0))
+part-some-named-end-2 c = omega arith
 
 some-named-requires-2 : tie.Need-some-named-requires-2
 some-named-requires-2 c κs = let count = c .before .before .before .before in (start count .pre .1, listed count, rising count)

@@ -6,7 +6,7 @@ use mathlib.Core.List.{List}
 use mathlib.Core.Option.{some}
 use lib.ListN.{length, getD}
 use borrow.Author.Tests.{not-true, not-false}
-use Rattle.basis.specs.Sizes.{hosts, spaceBody}
+use Rattle.basis.specs.Sizes.{hosts, spaceBody, hostAt}
 use Rattle.model.specs.Step.{closeSpace}
 use Rattle.requests.specs.BodyLaws.{from-host}
 use Rattle.requests.specs.OpenLaws.{close-yes, close-no, space-within}
@@ -25,7 +25,7 @@ module _ (m : tie.Else1) where
   abbrev body : List ℕ
   body = m .before .before .before .args .body .now
 
-  head : (length body ≡ spaceBody) × (getD body 0 0 < hosts)
+  head : (length body ≡ spaceBody) × (getD body hostAt 0 < hosts)
   head = from-host body spaceBody (m .before .from-host .result) (m .before .from-host .ensures) (not-false _ (m .if1 .left))
 
 shared-slice-read-host : tie.Need-shared-slice-read-host
@@ -43,7 +43,7 @@ returns-2 c =
     let h = m .before .from-host in
     let p = c .before .word2 .ensures in
     let n = c .space-number .ensures in (
-      (λ i. some (closeSpace (getD (body m) 0 0) (p i) (n i))) ∙ sym (close-yes (body m) (h .result) (h .ensures) (not-false _ (m .if1 .left))),
+      (λ i. some (closeSpace (getD (body m) hostAt 0) (p i) (n i))) ∙ sym (close-yes (body m) (h .result) (h .ensures) (not-false _ (m .if1 .left))),
       (head m .1, omega (arith, n, space-within (body m) (λ k. c .before .before .shared-slice-known2 .given k .fits))),
     )
 

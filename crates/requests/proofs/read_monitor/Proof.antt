@@ -6,7 +6,7 @@ use mathlib.Core.List.{List}
 use mathlib.Core.Option.{some}
 use lib.ListN.{length, getD}
 use borrow.Author.Tests.{not-true, not-false}
-use Rattle.basis.specs.Sizes.{hosts, processBody}
+use Rattle.basis.specs.Sizes.{hosts, processBody, hostAt}
 use Rattle.model.specs.Step.{monitor}
 use Rattle.requests.specs.BodyLaws.{from-host, monitor-yes, monitor-no}
 use borrow.Author.Needs.{needs}
@@ -24,7 +24,7 @@ module _ (m : tie.Else1) where
   abbrev body : List ℕ
   body = m .before .before .before .args .body .now
 
-  head : (length body ≡ processBody) × (getD body 0 0 < hosts)
+  head : (length body ≡ processBody) × (getD body hostAt 0 < hosts)
   head = from-host body processBody (m .before .from-host .result) (m .before .from-host .ensures) (not-false _ (m .if1 .left))
 
 shared-slice-read-host : tie.Need-shared-slice-read-host
@@ -37,7 +37,7 @@ returns-2 : tie.Need-returns-2
 returns-2 c =
     let m = c .before .before in
     let h = m .before .from-host in
-    (ap (λ p. some (monitor (getD (body m) 0 0) p)) (c .word2 .ensures) ∙ sym (monitor-yes (body m) (h .result) (h .ensures) (not-false _ (m .if1 .left))), head m .1)
+    (ap (λ p. some (monitor (getD (body m) hostAt 0) p)) (c .word2 .ensures) ∙ sym (monitor-yes (body m) (h .result) (h .ensures) (not-false _ (m .if1 .left))), head m .1)
 
 pub read-monitor-spec : {M : Type 1} → statement M
 read-monitor-spec = tie.close (tie.spec from-host-requires returns shared-slice-read-host word2-requires returns-2)

@@ -8,7 +8,7 @@ use mathlib.Core.Option.{some}
 use lib.ListN.{length, getD}
 use lib.Dec.{eqb}
 use borrow.Author.Tests.{not-true, not-false}
-use Rattle.basis.specs.Sizes.{hosts, processBody, kindBody}
+use Rattle.basis.specs.Sizes.{hosts, processBody, kindBody, hostAt, kindAt}
 use Rattle.model.specs.Step.{openSpace}
 use Rattle.requests.specs.BodyLaws.{from-host}
 use Rattle.requests.specs.OpenLaws.{open-short, open-no, open-other, open-yes}
@@ -24,7 +24,7 @@ module _ (m : tie.Then1) where
   abbrev body : List ℕ
   body = m .before .before .before .args .body .now
 
-  head : (length body ≡ processBody) × (getD body 0 0 < hosts)
+  head : (length body ≡ processBody) × (getD body hostAt 0 < hosts)
   head = from-host body processBody (m .before .from-host .result) (m .before .from-host .ensures) (m .if1 .taken)
 
 shared-slice-read-host : tie.Need-shared-slice-read-host
@@ -37,7 +37,7 @@ returns : tie.Need-returns
 returns c =
     let m = c .before .before in
     let h = m .before .from-host in
-    (ap (λ p. some (openSpace (getD (body m) 0 0) p false)) (c .word2 .ensures) ∙ sym (open-short (body m) (h .result) (h .ensures) (m .if1 .taken)), head m .1)
+    (ap (λ p. some (openSpace (getD (body m) hostAt 0) p false)) (c .word2 .ensures) ∙ sym (open-short (body m) (h .result) (h .ensures) (m .if1 .taken)), head m .1)
 
 from-host-requires-2 : tie.Need-from-host-requires-2
 from-host-requires-2 c κs = search needs
@@ -54,7 +54,7 @@ module _ (m : tie.Else2) where
   abbrev long : List ℕ
   long = m .before .before .before .before .before .args .body .now
 
-  with-kind : (length long ≡ kindBody) × (getD long 0 0 < hosts)
+  with-kind : (length long ≡ kindBody) × (getD long hostAt 0 < hosts)
   with-kind = from-host long kindBody (m .before .from-host2 .result) (m .before .from-host2 .ensures) (not-false _ (m .if2 .left))
 
 shared-slice-read-kind : tie.Need-shared-slice-read-kind
@@ -80,7 +80,7 @@ returns-4 c =
     let g = m .before .from-host2 in
     let e = m .before .before in
     let h = e .before .from-host in (
-      ap (λ p. some (openSpace (getD (long m) 0 0) p (eqb (getD (long m) processBody 0) 1))) (c .word22 .ensures)
+      ap (λ p. some (openSpace (getD (long m) hostAt 0) p (eqb (getD (long m) kindAt 0) 1))) (c .word22 .ensures)
           ∙ sym (open-yes (long m) (h .result) (g .result) (h .ensures) (e .if1 .left) (g .ensures) (not-false _ (m .if2 .left)) (c .before .before .if3 .left)),
       with-kind m .1,
     )

@@ -6,7 +6,7 @@ use mathlib.Core.List.{List}
 use mathlib.Core.Option.{some}
 use lib.ListN.{length, getD}
 use borrow.Author.Tests.{not-true, not-false}
-use Rattle.basis.specs.Sizes.{hosts, hostBody}
+use Rattle.basis.specs.Sizes.{hosts, hostBody, hostAt}
 use Rattle.requests.specs.BodyLaws.{from-host, recover-yes, recover-no}
 use borrow.Author.Needs.{needs}
 use Rattle.requests.proofs.read_recover.Statement.{statement}
@@ -23,7 +23,7 @@ module _ (m : tie.Else1) where
   abbrev body : List ℕ
   body = m .before .before .before .args .body .now
 
-  head : (length body ≡ hostBody) × (getD body 0 0 < hosts)
+  head : (length body ≡ hostBody) × (getD body hostAt 0 < hosts)
   head = from-host body hostBody (m .before .from-host .result) (m .before .from-host .ensures) (not-false _ (m .if1 .left))
 
 shared-slice-read-host : tie.Need-shared-slice-read-host

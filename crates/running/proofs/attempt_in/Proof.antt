@@ -1,12 +1,9 @@
 -- `running::attempt_in` meets its contract. Assumes nothing.
 use native.Mathlib.Omega.{arith}
 use borrow.Author.Needs.{needs}
-use borrow.Rule.Slice.PartMut.{same-len-mid}
-use Rattle.basis.specs.Sizes.{tuplesAt, tuplesSize}
-use Rattle.header.specs.RowLaws.{stored-length}
+use Rattle.basis.specs.NumberLaws.{bytes-of}
 use Rattle.bindings.specs.Fields.{length-mapped}
 use Rattle.bindings.specs.Variables.{Sixteen}
-use Rattle.names.specs.PassLaws.{bytes-of}
 use Rattle.state.specs.Lent.{is-section}
 use Rattle.running.specs.Attempts.{left}
 use Rattle.running.proofs.attempt_in.Statement.{statement}
@@ -30,7 +27,7 @@ module _ (c : tie.After-attempt) where
   start = known .before .before
 
 tuple-count-requires : tie.Need-tuple-count-requires
-tuple-count-requires c κs = omega (arith, stored-length _ _ (c .before .before .before .pre .0))
+tuple-count-requires c κs = omega arith
 
 sub-attempt : tie.Need-sub-attempt
 sub-attempt c = search needs
@@ -39,7 +36,7 @@ part-attempt-start : tie.Need-part-attempt-start
 part-attempt-start c = search needs
 
 part-attempt-end : tie.Need-part-attempt-end
-part-attempt-end c = omega (arith, stored-length _ _ (c .before .before .before .before .pre .0))
+part-attempt-end c = omega arith
 
 attempt-requires : tie.Need-attempt-requires
 attempt-requires c κs =
@@ -50,9 +47,7 @@ attempt-requires c κs =
 set-tuple-count-requires : tie.Need-set-tuple-count-requires
 set-tuple-count-requires c κs =
     let att = c .before .before .before in
-    let s = start att in
-    let same = same-len-mid tuplesAt tuplesSize (s .args .state .now) (att .attempt .last .0) (att .attempt .kept .0) in
-    (omega (arith, stored-length _ _ (s .pre .0), same), att .attempt .ensures .holds .few)
+    (omega arith, att .attempt .ensures .holds .few)
 
 same-length : tie.Need-same-length
 same-length c = search needs

@@ -7,7 +7,7 @@ use borrow.Author.Tests.{not-true, not-false}
 use Rattle.basis.specs.Lists.{pieces}
 use Rattle.basis.specs.Sizes.{spaceSize}
 use Rattle.sections.specs.RowLaws.{pieces-length}
-use Rattle.sections.specs.Tests.{Passing, pass-start, pass-more, pass-no, pass-end}
+use Rattle.scans.specs.Tests.{Passing, pass-start, pass-more, pass-no, pass-end}
 use Rattle.spaces.specs.Legal.{accessOk}
 use borrow.Author.Needs.{needs}
 use Rattle.spaces.proofs.accesses_ok.Statement.{statement}

@@ -6,7 +6,7 @@ use lib.Pow.{areBytes}
 use borrow.Author.Tests.{not-true, not-false}
 use Rattle.basis.specs.Logic.{true-is}
 use Rattle.sections.specs.RowLaws.{bytes-of}
-use Rattle.sections.specs.Tests.{clash}
+use Rattle.scans.specs.Tests.{clash}
 use Rattle.spaces.specs.LegalLaws.{not-legal, then-rising}
 use borrow.Author.Needs.{needs}
 use Rattle.spaces.proofs.are_legal.Statement.{statement}

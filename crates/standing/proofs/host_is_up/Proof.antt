@@ -5,13 +5,12 @@ use mathlib.Core.Bool.{Bool, false}
 use mathlib.Core.List.{List}
 use lib.ListN.{getD}
 use Rattle.model.specs.Run.{hostUp}
-use Rattle.header.specs.RowLaws.{stored-length}
 use borrow.Author.Needs.{needs}
 use Rattle.standing.proofs.host_is_up.Statement.{statement}
 use Rattle.standing.proofs.host_is_up.Tie as tie
 
 hosts-requires : tie.Need-hosts-requires
-hosts-requires c κs = omega (arith, stored-length _ _ (c .before .pre .0))
+hosts-requires c κs = omega arith
 
 host-up-requires : tie.Need-host-up-requires
 host-up-requires c κs = search needs

@@ -4,7 +4,6 @@ use native.Mathlib.Omega.{arith}
 use mathlib.Core.List.{List}
 use Rattle.basis.specs.Lists.{any}
 use Rattle.model.specs.Run.{Waiting, isWaiting}
-use Rattle.header.specs.RowLaws.{stored-length}
 use Rattle.queue.specs.Queue.{ofProcess}
 use Rattle.lent.specs.Sections.{queue-read, is-queued}
 use borrow.Author.Needs.{needs}
@@ -12,7 +11,7 @@ use Rattle.standing.proofs.process_waits.Statement.{statement}
 use Rattle.standing.proofs.process_waits.Tie as tie
 
 waiting-count-requires : tie.Need-waiting-count-requires
-waiting-count-requires c κs = omega (arith, stored-length _ _ (c .before .pre))
+waiting-count-requires c κs = omega arith
 
 sub-process-waits : tie.Need-sub-process-waits
 sub-process-waits c = search needs
@@ -21,7 +20,7 @@ part-process-waits-start : tie.Need-part-process-waits-start
 part-process-waits-start c = search needs
 
 part-process-waits-end : tie.Need-part-process-waits-end
-part-process-waits-end c = omega (arith, stored-length _ _ (c .before .before .pre))
+part-process-waits-end c = omega arith
 
 process-waits-requires : tie.Need-process-waits-requires
 process-waits-requires c κs =

@@ -5,7 +5,6 @@ use mathlib.Core.Bool.{true}
 use borrow.Author.Tests.{not-true, not-false}
 use Rattle.model.specs.Run.{hostUp}
 use Rattle.layout.specs.States.{decode}
-use Rattle.header.specs.RowLaws.{stored-length}
 use Rattle.order.specs.RefusalLaws.{crash-down, crash-many, crash-few}
 use borrow.Author.Needs.{needs}
 use Rattle.standing.proofs.refuse_crash.Statement.{statement}
@@ -29,10 +28,10 @@ returns : tie.Need-returns
 returns c = crash-down _ _ (sym (c .before .host-is-up .ensures) ∙ not-true _ (c .if1 .taken))
 
 tuple-count-requires : tie.Need-tuple-count-requires
-tuple-count-requires c κs = omega (arith, stored-length _ _ (c .before .before .before .pre .0))
+tuple-count-requires c κs = omega arith
 
 monitors-requires : tie.Need-monitors-requires
-monitors-requires c κs = omega (arith, stored-length _ _ (c .before .before .before .before .pre .0))
+monitors-requires c κs = omega arith
 
 add-if2 : tie.Need-add-if2
 add-if2 c = let f = start c .pre .0 .fit in omega (arith, f .tuples .few, f .monitors, counted c .tuple-count .ensures .0, c .monitors .ensures .0)

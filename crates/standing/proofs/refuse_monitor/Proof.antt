@@ -2,7 +2,6 @@
 use mathlib.Core.Path.{_∙_}
 use native.Mathlib.Omega.{arith}
 use Rattle.model.specs.Step.{checks}
-use Rattle.header.specs.RowLaws.{stored-length}
 use Rattle.order.specs.RefusalLaws.{stops, goes, monitors-used, monitors-left}
 use borrow.Author.Needs.{needs}
 use Rattle.standing.proofs.refuse_monitor.Statement.{statement}
@@ -16,7 +15,7 @@ unfolding checks
 returns c = stops _ _ _ _ (c .before .refuse-standing .ensures) _ (c .if1 .taken)
 
 monitors-requires : tie.Need-monitors-requires
-monitors-requires c κs = omega (arith, stored-length _ _ (c .before .before .before .pre .0))
+monitors-requires c κs = omega arith
 
 returns-2 : tie.Need-returns-2
 unfolding checks

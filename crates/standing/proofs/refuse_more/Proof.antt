@@ -1,13 +1,12 @@
 -- `standing::refuse_more` meets its contract. Assumes nothing.
 use native.Mathlib.Omega.{arith}
 use Rattle.layout.specs.States.{decode}
-use Rattle.header.specs.RowLaws.{stored-length}
 use Rattle.order.specs.RefusalLaws.{spaces-used, numbers-used, numbers-left}
 use Rattle.standing.proofs.refuse_more.Statement.{statement}
 use Rattle.standing.proofs.refuse_more.Tie as tie
 
 space-count-requires : tie.Need-space-count-requires
-space-count-requires c κs = omega (arith, stored-length _ _ (c .before .pre))
+space-count-requires c κs = omega arith
 
 returns : tie.Need-returns
 returns c =
@@ -15,7 +14,7 @@ returns c =
     spaces-used (decode (count .before .before .args .state .now)) _ (count .space-count .ensures .0) (c .if1 .taken)
 
 next-requires : tie.Need-next-requires
-next-requires c κs = omega (arith, stored-length _ _ (c .before .before .before .pre))
+next-requires c κs = omega arith
 
 returns-2 : tie.Need-returns-2
 returns-2 c =

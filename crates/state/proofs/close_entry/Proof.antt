@@ -1,16 +1,16 @@
 -- `state::close_entry` meets its contract. Assumes nothing.
 use native.Mathlib.Omega.{arith}
-use mathlib.Core.Path.{_∙_}
-use borrow.Rule.Slice.PartMut.{same-len-mid}
-use Rattle.basis.specs.Sizes.{spacesSize, spacesAt}
-use Rattle.header.specs.RowLaws.{stored-length}
 use Rattle.lent.specs.Sections.{is-listed}
 use Rattle.state.specs.SpaceChanges.{unlists}
 use Rattle.state.proofs.close_entry.Statement.{statement}
 use Rattle.state.proofs.close_entry.Tie as tie
 
 space-count-requires : tie.Need-space-count-requires
-space-count-requires c κs = omega (arith, stored-length _ _ (c .before .before .pre .0))
+space-count-requires c κs = omega arith
+
+-- the count is read
+abbrev first : tie.After-space-count → tie.Start
+first c = c .before .before .before
 
 sub-close : tie.Need-sub-close
 sub-close c = omega arith
@@ -19,40 +19,24 @@ part-close-start : tie.Need-part-close-start
 part-close-start c = omega arith
 
 part-close-end : tie.Need-part-close-end
-part-close-end c = omega (arith, stored-length _ _ (c .before .before .before .pre .0))
+part-close-end c = omega arith
 
 close-requires : tie.Need-close-requires
-close-requires c κs = let counted = c .before in let s = counted .before .before .before in is-listed (s .args .state .now) _ (s .pre .0) (counted .space-count .ensures .0)
-
--- the moments before the count is stored
-module _ (c : tie.After-set-space-count-arg) where
-  abbrev closed : tie.After-close
-  closed = c .before .before .before
-
-  abbrev counted : tie.After-space-count
-  counted = closed .before .before
-
-  abbrev first : tie.Start
-  first = counted .before .before .before
+close-requires c κs = is-listed _ _ (first (c .before) .pre .0) (c .before .space-count .ensures .0)
 
 set-space-count-requires : tie.Need-set-space-count-requires
-set-space-count-requires c κs = (
-  omega (arith, stored-length _ _ (first c .pre .0), same-len-mid spacesAt spacesSize (first c .args .state .now) (closed c .close .last .0) (closed c .close .kept .0)),
-  closed c .close .ensures .few,
-)
+set-space-count-requires c κs = (omega arith, c .before .before .before .close .ensures .few)
 
 same-length : tie.Need-same-length
-same-length c =
-    let put = c .before .before in
-    let m = put .before in
-    put .set-space-count .kept .0 ∙ same-len-mid spacesAt spacesSize (first m .args .state .now) (closed m .close .last .0) (closed m .close .kept .0)
+same-length c = omega arith
 
 returns : tie.Need-returns
 returns c =
     let put = c .before .before in
-    let m = put .before in
-    let s = first m in
-    unlists (s .args .state .now) _ _ _ _ (s .args .space) (s .pre .0) (s .pre .1) (s .pre .2) (counted m .space-count .ensures .0) (closed m .close .ensures) (put .set-space-count .ensures)
+    let closed = put .before .before .before .before in
+    let counted = closed .before .before in
+    let s = first counted in
+    unlists (s .args .space) (s .pre .0) (s .pre .1) (s .pre .2) (counted .space-count .ensures .0) (closed .close .ensures) (put .set-space-count .ensures)
 
 pub close-entry-spec : {M : Type 1} → statement M
 close-entry-spec =

@@ -1,13 +1,12 @@
 -- `state::monitor` meets its contract. Assumes nothing.
 use native.Mathlib.Omega.{arith}
 use Rattle.layout.specs.States.{decode}
-use Rattle.header.specs.RowLaws.{stored-length}
 use Rattle.state.specs.HostChanges.{monitors-below, next-monitor, monitored}
 use Rattle.state.proofs.monitor.Statement.{statement}
 use Rattle.state.proofs.monitor.Tie as tie
 
 monitors-requires : tie.Need-monitors-requires
-monitors-requires c κs = omega (arith, stored-length _ _ (c .before .before .pre .0))
+monitors-requires c κs = omega arith
 
 -- the moments before the number is stored
 module _ (c : tie.After-set-monitors-arg) where
@@ -21,7 +20,7 @@ add-n : tie.Need-add-n
 add-n c = let s = c .before .before .before in omega (arith, monitors-below (decode (s .args .state .now)) (s .pre .1), c .monitors .ensures .0)
 
 set-monitors-requires : tie.Need-set-monitors-requires
-set-monitors-requires c κs = (omega (arith, stored-length _ _ (first c .pre .0)), omega (arith, monitors-below (decode (first c .args .state .now)) (first c .pre .1), read c .monitors .ensures .0))
+set-monitors-requires c κs = (omega arith, omega (arith, monitors-below (decode (first c .args .state .now)) (first c .pre .1), read c .monitors .ensures .0))
 
 cast-result : tie.Need-cast-result
 cast-result c = let m = c .before .before .before in omega (arith, monitors-below (decode (first m .args .state .now)) (first m .pre .1), read m .monitors .ensures .0)

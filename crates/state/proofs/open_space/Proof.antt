@@ -1,10 +1,6 @@
 -- `state::open_space` meets its contract. Assumes nothing.
 use native.Mathlib.Omega.{arith}
-use mathlib.Core.Path.{_∙_}
-use borrow.Rule.Slice.PartMut.{same-len-mid}
-use Rattle.basis.specs.Sizes.{spacesSize, spacesAt}
 use Rattle.layout.specs.States.{decode}
-use Rattle.header.specs.RowLaws.{stored-length}
 use Rattle.lent.specs.Sections.{is-listed}
 use Rattle.state.specs.SpaceChanges.{room, opens}
 use borrow.Author.Needs.{needs}
@@ -12,10 +8,10 @@ use Rattle.state.proofs.open_space.Statement.{statement}
 use Rattle.state.proofs.open_space.Tie as tie
 
 space-count-requires : tie.Need-space-count-requires
-space-count-requires c κs = omega (arith, stored-length _ _ (c .before .before .pre .0))
+space-count-requires c κs = omega arith
 
 next-requires : tie.Need-next-requires
-next-requires c κs = omega (arith, stored-length _ _ (c .before .before .before .before .pre .0))
+next-requires c κs = omega arith
 
 -- the moments before the space is stored
 module _ (c : tie.After-next) where
@@ -32,7 +28,7 @@ part-open-start : tie.Need-part-open-start
 part-open-start c = omega arith
 
 part-open-end : tie.Need-part-open-end
-part-open-end c = omega (arith, stored-length _ _ (first c .pre .0))
+part-open-end c = omega arith
 
 cast-open : tie.Need-cast-open
 cast-open c = let s = first (c .before) in omega (arith, room (decode (s .args .state .now)) (s .pre .1) .number, c .before .next .ensures .0)
@@ -57,11 +53,7 @@ add-set-space-count : tie.Need-add-set-space-count
 add-set-space-count c = omega arith
 
 set-space-count-requires : tie.Need-set-space-count-requires
-set-space-count-requires c κs =
-    let s = first (read c) in (
-      omega (arith, stored-length _ _ (s .pre .0), same-len-mid spacesAt spacesSize (s .args .state .now) (opened c .open .last .0) (opened c .open .kept .0)),
-      opened c .open .ensures .few,
-    )
+set-space-count-requires c κs = (omega arith, opened c .open .ensures .few)
 
 -- that before the next number is stored
 module _ (c : tie.After-set-next-arg) where
@@ -72,17 +64,10 @@ add-set-next : tie.Need-add-set-next
 add-set-next c = let r = read (put c .before) in let s = first r in omega (arith, room (decode (s .args .state .now)) (s .pre .1) .number, r .next .ensures .0)
 
 set-next-requires : tie.Need-set-next-requires
-set-next-requires c κs =
-    let m = put c .before in
-    let s = first (read m) in
-    omega (arith, stored-length _ _ (s .pre .0), same-len-mid spacesAt spacesSize (s .args .state .now) (opened m .open .last .0) (opened m .open .kept .0), put c .set-space-count .kept .0)
+set-next-requires c κs = omega arith
 
 same-length : tie.Need-same-length
-same-length c =
-    let step = c .before .before in
-    let p = put (step .before) in
-    let m = p .before in
-    step .set-next .kept .0 ∙ (p .set-space-count .kept .0 ∙ same-len-mid spacesAt spacesSize (first (read m) .args .state .now) (opened m .open .last .0) (opened m .open .kept .0))
+same-length c = omega arith
 
 returns : tie.Need-returns
 returns c =
@@ -92,8 +77,7 @@ returns c =
     let r = read m in
     let s = first r in (
       r .next .ensures .0,
-      opens (s .args .state .now) _ _ _ _ _ (s .args .process) (s .args .owned) (s .pre .0) (s .pre .1) (search needs) (counted r .space-count .ensures .0) (r .next .ensures .0) (opened m .open .ensures) (p .set-space-count .ensures)
-          (step .set-next .ensures),
+      opens (s .args .process) (s .args .owned) (s .pre .0) (s .pre .1) (search needs) (counted r .space-count .ensures .0) (r .next .ensures .0) (opened m .open .ensures) (p .set-space-count .ensures) (step .set-next .ensures),
     )
 
 pub open-space-spec : {M : Type 1} → statement M

@@ -2,13 +2,12 @@
 use native.Mathlib.Omega.{arith}
 use mathlib.Core.Bool.{false}
 use Rattle.layout.specs.States.{decode}
-use Rattle.header.specs.RowLaws.{stored-length}
 use Rattle.state.specs.HostChanges.{up-at, recovers}
 use Rattle.state.proofs.recover.Statement.{statement}
 use Rattle.state.proofs.recover.Tie as tie
 
 hosts-requires : tie.Need-hosts-requires
-hosts-requires c κs = omega (arith, stored-length _ _ (c .before .before .pre .0))
+hosts-requires c κs = omega arith
 
 -- the moments before the mask is stored
 module _ (c : tie.After-set-hosts-arg) where
@@ -22,7 +21,7 @@ with-host-requires : tie.Need-with-host-requires
 with-host-requires c κs = (first c .pre .1, up-at (decode (first c .args .state .now)) (read c .hosts .result) (first c .args .host) false (read c .hosts .ensures .0) (first c .pre .2))
 
 set-hosts-requires : tie.Need-set-hosts-requires
-set-hosts-requires c κs = omega (arith, stored-length _ _ (first (c .before) .pre .0))
+set-hosts-requires c κs = omega arith
 
 same-length : tie.Need-same-length
 same-length c = c .before .before .set-hosts .kept .0

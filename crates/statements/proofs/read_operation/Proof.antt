@@ -5,7 +5,7 @@ use denote.Ref.{now}
 use borrow.Author.Needs.{needs}
 use Rattle.statements.specs.Flat.{readIs, none-formed, reads-as}
 use Rattle.statements.specs.At.{found, found-some}
-use Rattle.statements.specs.Operations.{operation-past, operation-always, operation-space, operation-spaces, operation-none}
+use Rattle.statements.specs.Operations.{operation-past, operation-always, operation-after, operation-none}
 use Rattle.statements.proofs.read_operation.Statement.{statement}
 use Rattle.statements.proofs.read_operation.Tie as tie
 
@@ -37,35 +37,24 @@ returns-2 c = let k = c .before .before .before in
       formed = none-formed (c .no-operation .result) (e .1);
     }
 
-add-read-on-space : tie.Need-add-read-on-space
-add-read-on-space c = search needs
-
-read-on-space-requires : tie.Need-read-on-space-requires
-read-on-space-requires c κs = search needs
-
-returns-3 : tie.Need-returns-3
-returns-3 c = let k = c .before .before .before .before in
-    let s = k .before .before in
-    reads-as _ _ _ (c .read-on-space .ensures) (sym (operation-space (now (s .args .b)) (s .args .at) (k .if1 .left) (omega (arith, c .before .before .if2 .left)) (c .before .if3 .taken)))
-
 add-read-on-spaces : tie.Need-add-read-on-spaces
 add-read-on-spaces c = search needs
 
 read-on-spaces-requires : tie.Need-read-on-spaces-requires
 read-on-spaces-requires c κs = search needs
 
-returns-4 : tie.Need-returns-4
-returns-4 c = let k = c .before .before .before .before .before in
+returns-3 : tie.Need-returns-3
+returns-3 c = let k = c .before .before .before .before in
     let s = k .before .before in
-    reads-as _ _ _ (c .read-on-spaces .ensures) (sym (operation-spaces (now (s .args .b)) (s .args .at) (k .if1 .left) (c .before .before .if3 .left) (c .before .if4 .taken)))
+    reads-as _ _ _ (c .read-on-spaces .ensures) (sym (operation-after (now (s .args .b)) (s .args .at) (k .if1 .left)))
 
 no-operation-read-requires-2 : tie.Need-no-operation-read-requires-2
 no-operation-read-requires-2 c κs = search needs
 
-returns-5 : tie.Need-returns-5
-returns-5 c = let k = c .before .before .before .before .before in
+returns-4 : tie.Need-returns-4
+returns-4 c = let k = c .before .before .before .before in
     let s = k .before .before in
-    reads-as _ _ _ (c .no-operation-read2 .ensures) (sym (operation-none (now (s .args .b)) (s .args .at) (k .if1 .left) (c .before .if4 .left)))
+    reads-as _ _ _ (c .no-operation-read2 .ensures) (sym (operation-none (now (s .args .b)) (s .args .at) (k .if1 .left) (c .before .if3 .left)))
 
 pub read-operation-spec : {M : Type 1} → statement M
 read-operation-spec =
@@ -77,11 +66,8 @@ read-operation-spec =
     add-t8
     no-operation-requires
     returns-2
-    add-read-on-space
-    read-on-space-requires
-    returns-3
     add-read-on-spaces
     read-on-spaces-requires
-    returns-4
+    returns-3
     no-operation-read-requires-2
-    returns-5)
+    returns-4)

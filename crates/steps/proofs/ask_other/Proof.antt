@@ -65,7 +65,7 @@ returns c =
     let m = own .before .before .before .before .before .before in
     let a = start m .args in
     let n = own .own .given .0 .0 in
-    asked-as (markAt (a .mark)) (a .body .now) (decode (a .state .now)) (wanted m) (a .out .now) (left m) (told m) n (m .before .before .before .read .ensures .0) (came m (Refused n) (own .own .given .1))
+    asked-as (markAt (a .mark)) (a .body .now) (decode (a .state .now)) (wanted m) (a .out .now) (left m) (told m) n (m .before .before .before .read .ensures .0) (came m (Refused n) (own .own .given .1) .1)
 
 same-length-3 : tie.Need-same-length-3
 same-length-3 c = search needs

@@ -8,7 +8,6 @@ use Rattle.model.specs.Run.{Run}
 use Rattle.model.specs.Statement.{Statement}
 use Rattle.layout.specs.States.{decode}
 use Rattle.layout.specs.Stored.{Turned, statementOf}
-use Rattle.header.specs.RowLaws.{stored-length}
 use Rattle.header.specs.StoredLaws.{said}
 use Rattle.running.specs.Executed.{executed}
 use Rattle.steps.specs.StatementLaws.{Quiet, ran-at, ran-turned, quiet, quiet-later, quiet-passed, quiet-unmet, statement-may}
@@ -17,7 +16,7 @@ use Rattle.steps.proofs.run_statement.Statement.{statement}
 use Rattle.steps.proofs.run_statement.Tie as tie
 
 last-requires : tie.Need-last-requires
-last-requires c κs = omega (arith, stored-length _ _ (c .before .before .before .before .pre .0))
+last-requires c κs = omega arith
 
 run-body-requires : tie.Need-run-body-requires
 run-body-requires c κs = let s = c .before .before .before .before .before .before .before in (s .pre .0, statement-may (decode (s .args .state .now)) (s .args .body .now) (s .pre .1) (s .pre .3), s .pre .4)

@@ -7,7 +7,6 @@ use Rattle.model.specs.Run.{Run}
 use Rattle.model.specs.Step.{unmet}
 use Rattle.layout.specs.States.{decode}
 use Rattle.layout.specs.Stored.{statementOf}
-use Rattle.header.specs.RowLaws.{stored-length}
 use Rattle.unmet.specs.Unmet.{answeredBy}
 use Rattle.steps.specs.StatementLaws.{unmet-short, unmet-refused, unmet-waiting, may-wait}
 use borrow.Author.Needs.{needs}
@@ -18,7 +17,7 @@ can-wait-requires : tie.Need-can-wait-requires
 can-wait-requires c κs = search needs
 
 waiting-count-requires : tie.Need-waiting-count-requires
-waiting-count-requires c κs = omega (arith, stored-length _ _ (c .before .before .before .before .before .pre .0))
+waiting-count-requires c κs = omega arith
 
 refusal-requires : tie.Need-refusal-requires
 refusal-requires c κs = search needs

@@ -2,7 +2,7 @@
 use mathlib.Core.Path.{sym, _∙_}
 use borrow.Author.Tests.{not-true, not-false}
 use Rattle.basis.specs.Logic.{true-is}
-use Rattle.sections.specs.Tests.{refused, same-test, clash}
+use Rattle.scans.specs.Tests.{refused, same-test, clash}
 use Rattle.validation.specs.TupleLaws.{rows-tuples, tuples-unused, tuples-rows}
 use borrow.Author.Needs.{needs}
 use Rattle.validation.proofs.tuples_ok.Statement.{statement}

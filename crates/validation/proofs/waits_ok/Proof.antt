@@ -114,7 +114,7 @@ part-none-ready-end-2 : tie.Need-part-none-ready-end-2
 part-none-ready-end-2 c = omega (arith, start (second (third (c .before))) .pre .0)
 
 none-ready-requires : tie.Need-none-ready-requires
-none-ready-requires c κs = let s = start (second (third (c .before .before))) in (section-long (s .args .b .now) tuplesSize tuplesAt (omega (arith, s .pre .0)), s .pre .1, s .pre .4)
+none-ready-requires c κs = let s = start (second (third (c .before .before))) in (s .pre .4, section-long (s .args .b .now) tuplesSize tuplesAt (omega (arith, s .pre .0)), s .pre .1)
 
 returns-4 : tie.Need-returns-4
 returns-4 c =

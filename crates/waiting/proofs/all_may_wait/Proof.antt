@@ -6,7 +6,7 @@ use borrow.Author.Tests.{not-true, not-false}
 use Rattle.basis.specs.Numbers.{bits}
 use Rattle.basis.specs.Sizes.{hosts}
 use Rattle.sections.specs.Shapes.{items-length}
-use Rattle.sections.specs.Tests.{Passing, pass-start, pass-more, pass-no, pass-end}
+use Rattle.scans.specs.Tests.{Passing, pass-start, pass-more, pass-no, pass-end}
 use Rattle.queue.specs.Queue.{waitingShape, waitingOf}
 use Rattle.queue.specs.PlaceLaws.{noWaiting}
 use Rattle.spaces.specs.Spaces.{spacesOf}

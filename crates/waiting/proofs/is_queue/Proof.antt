@@ -6,7 +6,7 @@ use lib.Pow.{areBytes}
 use borrow.Author.Tests.{not-true, not-false}
 use Rattle.basis.specs.Logic.{true-is}
 use Rattle.sections.specs.RowLaws.{bytes-of}
-use Rattle.sections.specs.Tests.{refused, same-test, clash}
+use Rattle.scans.specs.Tests.{refused, same-test, clash}
 use Rattle.queue.specs.LegalLaws.{rows-queue, queue-unused, queue-rows}
 use borrow.Author.Needs.{needs}
 use Rattle.waiting.proofs.is_queue.Statement.{statement}

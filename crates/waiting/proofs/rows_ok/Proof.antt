@@ -7,7 +7,7 @@ use borrow.Author.Tests.{not-true, not-false}
 use Rattle.basis.specs.Lists.{pieces}
 use Rattle.basis.specs.Sizes.{waitingSize}
 use Rattle.sections.specs.RowLaws.{pieces-length}
-use Rattle.sections.specs.Tests.{Passing, pass-start, pass-more, pass-no, pass-end}
+use Rattle.scans.specs.Tests.{Passing, pass-start, pass-more, pass-no, pass-end}
 use Rattle.queue.specs.Legal.{rowLegal}
 use borrow.Author.Needs.{needs}
 use Rattle.waiting.proofs.rows_ok.Statement.{statement}

@@ -9,7 +9,6 @@ use Rattle.layout.specs.States.{decode}
 use Rattle.basis.specs.Sizes.{mostReply}
 use Rattle.layout.specs.Stored.{IsStored}
 use Rattle.header.specs.StoredLaws.{said}
-use Rattle.header.specs.RowLaws.{stored-length}
 use Rattle.wakes.specs.Settling.{Midway, midway-start, rest-lent, turn-shorter, turn-more, turn-end}
 use Rattle.wakes.proofs.settle.Statement.{statement}
 use Rattle.wakes.proofs.settle.Tie as tie
@@ -50,7 +49,7 @@ wake-one-requires : tie.Need-wake-one-requires Inv-loop μ-loop
 wake-one-requires c κs = let l = c .before .before .loop in (l .inv .0, rw (rest-lent, length-drop) (omega (arith, l .inv .3, l .inv .4 .number)))
 
 same-length : tie.Need-same-length Inv-loop μ-loop
-same-length c = let did = c .before .before .before .before .before in stored-length _ _ (did .wake-one .ensures .0 .stored) ∙ sym (stored-length _ _ (start did .pre .0))
+same-length c = let did = c .before .before .before .before .before in did .wake-one .ensures .0 .stored .long ∙ sym (start did .pre .0 .long)
 
 same-length-2 : tie.Need-same-length-2 Inv-loop μ-loop
 same-length-2 c = search needs

@@ -5,7 +5,6 @@ use mathlib.Core.Path.{_≡_}
 use mathlib.Core.List.{List}
 use borrow.Author.Needs.{needs}
 use Rattle.layout.specs.States.{decode}
-use Rattle.header.specs.RowLaws.{stored-length}
 use Rattle.sections.specs.Shapes.{holds-length}
 use Rattle.tuples.specs.Section.{tupleShape, tuplesOf, Section}
 use Rattle.queue.specs.Queue.{waitingOf}
@@ -50,10 +49,10 @@ module _ (c : tie.After-i) where
   runs = wakes-at (bytes counted) _ _ (asked .oldest-ready .result) (start counted .pre .0) (tuples-are counted) (queue-is counted) (asked .oldest-ready .ensures) index (c .i .given .1)
 
 waiting-count-requires : tie.Need-waiting-count-requires
-waiting-count-requires c κs = omega (arith, stored-length _ _ (c .before .before .before .pre .0))
+waiting-count-requires c κs = omega arith
 
 tuple-count-requires : tie.Need-tuple-count-requires
-tuple-count-requires c κs = omega (arith, stored-length _ _ (c .before .before .before .before .before .pre .0))
+tuple-count-requires c κs = omega arith
 
 sub-oldest-ready : tie.Need-sub-oldest-ready
 sub-oldest-ready c = omega arith
@@ -62,7 +61,7 @@ part-oldest-ready-start : tie.Need-part-oldest-ready-start
 part-oldest-ready-start c = omega arith
 
 part-oldest-ready-end : tie.Need-part-oldest-ready-end
-part-oldest-ready-end c = omega (arith, stored-length _ _ (start (c .before) .pre .0))
+part-oldest-ready-end c = omega arith
 
 sub-oldest-ready-2 : tie.Need-sub-oldest-ready-2
 sub-oldest-ready-2 c = omega arith
@@ -71,7 +70,7 @@ part-oldest-ready-start-2 : tie.Need-part-oldest-ready-start-2
 part-oldest-ready-start-2 c = omega arith
 
 part-oldest-ready-end-2 : tie.Need-part-oldest-ready-end-2
-part-oldest-ready-end-2 c = omega (arith, stored-length _ _ (start (c .before .before) .pre .0))
+part-oldest-ready-end-2 c = omega arith
 
 oldest-ready-requires : tie.Need-oldest-ready-requires
 oldest-ready-requires c κs =

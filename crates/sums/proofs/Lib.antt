@@ -1,0 +1,4 @@
+pub mod Rounded
+pub mod Place
+pub mod Bounds
+pub mod Sums

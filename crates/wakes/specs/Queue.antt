@@ -1,0 +1,80 @@
+-- The waiting statement at an index of a stored run, run from a copy of its body. Assumes nothing.
+use mathlib.Core.Path.{_≡_, refl, sym, ap, subst, _∙_}
+use Prim.Native.Nat.{ℕ, _*_, _≤_, _<_}
+use native.Mathlib.Omega.{arith}
+use mathlib.Core.List.{List, List·Memᴰ}
+use lib.ListN.{length, take, drop, getD, length-drop}
+use lib.Seq.{length-take-le, take-at}
+use lib.Dec.{T}
+use Rattle.basis.specs.Lists.{removeAt}
+use Rattle.basis.specs.Numbers.{numberAt}
+use Rattle.basis.specs.Sizes.{positionWidth, mostBody, mostWaiting, waitingSize}
+use Rattle.model.specs.Legal.{legalBody}
+use Rattle.model.specs.Run.{Waiting, Run, withWaiting, Turn}
+use Rattle.layout.specs.States.{decode}
+use Rattle.layout.specs.Stored.{IsStored, Turned, statementOf}
+use Rattle.words.specs.Over.{over}
+use Rattle.words.specs.OverLaws.{over-take, over-front}
+use Rattle.sections.specs.Shapes.{getD-member}
+use Rattle.queue.specs.Queue.{IsQueued}
+use Rattle.queue.specs.PlaceLaws.{noWaiting, waitingNth, rowEnd, bodyAt, bodySize, bodyOf, Stands, stands}
+use Rattle.lent.specs.Sections.{queueLent, queue-read, is-queued}
+use Rattle.lent.specs.Bodies.{row-within, bytes-legal, bytes-statement}
+use Rattle.running.specs.Executed.{MayRun, executed}
+use Rattle.wakes.specs.Leaving.{place, wokenAt}
+
+-- ---- a body copied
+
+pub copied : (p d l : List ℕ) (i n from : ℕ) → rowEnd i ≤ length p → n ≤ mostBody → mostBody ≤ length d → n ≡ bodySize p i → from ≡ bodyAt i
+    → l ≡ over d 0 (drop from p) n → take n l ≡ bodyOf p i
+copied p d l i n from row small room e f o =
+    let back : List ℕ = drop from p in
+    let long : length (take n back) ≡ n = length-take-le n back (rw length-drop (omega arith)) in
+    let front : take n l ≡ take n back = ap (take n) (o ∙ sym (over-take d 0 back n) ∙ over-front d (take n back) n long) ∙ take-at (take n back) (drop n d) n long in
+    front ∙ (λ k. take (e k) (drop (f k) p))
+
+-- ---- the waiting statement at an index
+
+module _ (b : List ℕ) (i : ℕ) (h : IsStored b) (below : i < length ((decode b) .waiting)) where
+  abbrev count : ℕ
+  count = length ((decode b) .waiting)
+
+  queued : IsQueued (queueLent b) count
+  queued = is-queued b count h refl
+
+  pub row : rowEnd i ≤ length (queueLent b)
+  row = row-within (queueLent b) count i queued below
+
+  pub few : i < mostWaiting
+  few = omega (arith, h .fit .waiting .few)
+
+  pub in-row : Stands (queueLent b) i (waitingNth (queueLent b) count i)
+  in-row = stands (queueLent b) count i queued below
+
+  -- it is the run's
+  place-is : waitingNth (queueLent b) count i ≡ place (decode b) i
+  unfolding place
+  place-is = ap (λ (ws : List Waiting). getD ws i noWaiting) (queue-read b count h refl)
+
+  member : List·Memᴰ (place (decode b) i) ((decode b) .waiting)
+  unfolding place
+  member = getD-member ((decode b) .waiting) noWaiting i below
+
+  module _ (x : List ℕ) (copy : x ≡ bodyOf (queueLent b) i) where
+    copy-statement : statementOf x ≡ (place (decode b) i) .statement
+    copy-statement = ap statementOf copy ∙ bytes-statement (queueLent b) count i queued below ∙ ap (λ (w : Waiting). w .statement) place-is
+
+    -- it may run in a state with the same spaces
+    pub woken-may : (t : Run) → t .spaces ≡ (decode b) .spaces → MayRun t x
+    woken-may t same = record {
+      legal = subst (λ (y : List ℕ). T (legalBody y)) (sym copy) (bytes-legal (queueLent b) count i queued below);
+      opened = rw (copy-statement, same) (λ k m. h .fit .waiting .each (place (decode b) i) member .named k m .0);
+    }
+
+    -- once it has left the queue, what it does is its turn
+    pub woken-turn : (t : Run) (p : ℕ) (buffer state out : List ℕ) (m : ℕ) → t ≡ withWaiting (decode b) (removeAt i ((decode b) .waiting)) → p ≡ numberAt (i * waitingSize) positionWidth (queueLent b)
+        → Turned (executed t p (statementOf x)) buffer state out m → Turned (wokenAt (decode b) i) buffer state out m
+    unfolding wokenAt
+    woken-turn t p buffer state out m gone ep r =
+        let at : p ≡ (place (decode b) i) .position = ep ∙ in-row .position ∙ ap (λ (w : Waiting). w .position) place-is in
+        subst (λ (u : Turn). Turned u buffer state out m) (λ k. executed (gone k) (at k) (copy-statement k)) r
