@@ -75,7 +75,7 @@ fn copy_body(body: &[u8], out: &mut [u8]) -> usize
     let r = read_operation(body, BRANCHES_AT);
     let op = r.operation;
     let process = word2(body, PROCESS_AT);
-    let a = begin_at(out, body[0], process, op);
+    let a = begin_at(out, body[words::HOST_AT], process, op);
     let end = r.end;
     let c = copy_operations(body, end + COUNT_WIDTH, size(body[end]), out, a.fill);
     copy_branches(body, c.at, size(body[BRANCH_COUNT_AT]) - 1, out, c.fill)

@@ -13,7 +13,7 @@ use Rattle.model.specs.Legal.{parse, legalBody}
 use Rattle.layout.specs.Stored.{statementOf, statement-of}
 use Rattle.sections.specs.Shapes.{holds-length}
 use Rattle.queue.specs.Queue.{waitingShape, waitingOf, IsQueued}
-use Rattle.queue.specs.PlaceLaws.{waitingNth, rowEnd, bodyAt, bodySize, bodyOf, stands}
+use Rattle.queue.specs.PlaceLaws.{waitingNth, rowEnd, bodyPlace, bodySize, bodyOf, stands}
 
 legal-of : (b : List ℕ) (st : Statement) → parse b ≡ some st → T (legalBody b)
 unfolding legalBody isSome
@@ -31,7 +31,7 @@ module _ (p : List ℕ) (n i : ℕ) (h : IsQueued p n) (below : i < n) where
   bytes-statement = statement-of (bodyOf p i) ((waitingNth p n i) .statement) (stands p n i h below .parsed)
 
   -- the part that is lent
-  module _ (size from : ℕ) (e : size ≡ bodySize p i) (f : from ≡ bodyAt i) where
+  module _ (size from : ℕ) (e : size ≡ bodySize p i) (f : from ≡ bodyPlace i) where
     pub body-small : size ≤ mostBody
     body-small = omega (arith, e, stands p n i h below .size)
 

@@ -33,15 +33,15 @@ waitingNth p n i = getD (waitingOf p n) i noWaiting
 abbrev pub rowEnd : ℕ → ℕ
 rowEnd i = (i + 1) * waitingSize
 
-abbrev pub bodyAt : ℕ → ℕ
-bodyAt i = i * waitingSize + waitingBodyAt
+abbrev pub bodyPlace : ℕ → ℕ
+bodyPlace i = i * waitingSize + waitingBodyAt
 
 -- the length of its body, and the body, as bytes
 abbrev pub bodySize : List ℕ → ℕ → ℕ
 bodySize p i = numberAt (i * waitingSize + waitingLengthAt) lengthWidth p
 
 abbrev pub bodyOf : List ℕ → ℕ → List ℕ
-bodyOf p i = take (bodySize p i) (drop (bodyAt i) p)
+bodyOf p i = take (bodySize p i) (drop (bodyPlace i) p)
 
 -- ---- a row
 

@@ -11,7 +11,7 @@ ghost use Rattle.model.specs.Legal.{legalBody};
 ghost use Rattle.layout.specs.Stored.{statementOf};
 ghost use Rattle.queue.specs.Queue.{waitingOf, Queued, IsQueued, ofOther, ofProcess, waits};
 ghost use Rattle.queue.specs.QueueLaws.{rowBytes};
-ghost use Rattle.queue.specs.PlaceLaws.{waitingNth, rowEnd, bodyAt, bodySize};
+ghost use Rattle.queue.specs.PlaceLaws.{waitingNth, rowEnd, bodyPlace, bodySize};
 ghost use Rattle.queue.specs.Legal.{bodyFits, inOrder, otherProcess};
 
 const ROW: usize = words::WAITING;
@@ -29,7 +29,7 @@ pub fn position(waiting: &[u8], i: usize) -> u32
 // Where its body begins.
 pub fn body_at(i: usize) -> usize
     requires { ⌜ i < mostWaiting ⌝ }
-    ensures { λ r. ⌜ r ≡ bodyAt i ⌝ }
+    ensures { λ r. ⌜ r ≡ bodyPlace i ⌝ }
 {
     i * ROW + words::WAITING_BODY_AT
 }

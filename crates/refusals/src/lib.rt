@@ -141,7 +141,7 @@ pub fn refuse_statement(state: &[u8], body: &[u8]) -> u8
     ensures { λ r. ⌜ r ≡ refusal (checks (decode (now (state .entry))) (guarded (statementOf (now (body .entry))))) ⌝ }
 {
     let process = words::word2(body, words::PROCESS_AT);
-    let r = standing::refuse_standing(state, body[0], process);
+    let r = standing::refuse_standing(state, body[words::HOST_AT], process);
     if r != 0 {
         return r;
     }

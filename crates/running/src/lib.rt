@@ -36,7 +36,7 @@ pub fn run_body(state: &mut [u8], position: u32, body: &[u8], out: &mut [u8]) ->
     replies::ran_reply(
         out,
         position,
-        body[0],
+        body[words::HOST_AT],
         words::word2(body, words::PROCESS_AT),
         ran.outcome,
         ran.branch,

@@ -5,6 +5,7 @@ ghost use mathlib.Core.List.{[], _∷_, _++_};
 ghost use lib.ListN.{length};
 ghost use Rattle.basis.specs.Lists.{keep, pad, pieces, removeAt};
 ghost use Rattle.basis.specs.Numbers.{numberAt};
+ghost use Rattle.basis.specs.Sizes.{mostWidth};
 ghost use Rattle.sections.specs.Rows.{Rows, Section, lacks};
 
 // The row at index i cut out: the later ones moved down, the last one's bytes cleared.
@@ -26,7 +27,7 @@ pub fn append(rows: &mut [u8], size: usize, n: usize, row: &[u8])
 
 // The number of w bytes from at on of the row at index i.
 pub fn field(rows: &[u8], size: usize, n: usize, i: usize, at: usize, w: usize) -> u32
-    requires { ⌜ (n * size ≤ length (now rows)) × (i < n) × (at + w ≤ size) × (w ≤ 4) ⌝ }
+    requires { ⌜ (n * size ≤ length (now rows)) × (i < n) × (at + w ≤ size) × (w ≤ mostWidth) ⌝ }
     ensures { λ r. ⌜ r ≡ numberAt (i * size + at) w (now (rows .entry)) ⌝ }
 {
     words::number(rows, i * size + at, w)
@@ -34,7 +35,7 @@ pub fn field(rows: &[u8], size: usize, n: usize, i: usize, at: usize, w: usize) 
 
 // The rows that have another number in that place, in their order; how many.
 pub fn drop_rows(rows: &mut [u8], size: usize, n: usize, at: usize, w: usize, value: u32) -> usize
-    requires { ⌜ Section size (now rows) n × (at + w ≤ size) × (w ≤ 4) ⌝ }
+    requires { ⌜ Section size (now rows) n × (at + w ≤ size) × (w ≤ mostWidth) ⌝ }
     ensures { λ r. ⌜ Rows (length (now (rows .entry))) size (now (rows .exit)) r (keep (lacks at w value) (pieces n size (now (rows .entry)))) ⌝ }
 {
     let mut m = 0;

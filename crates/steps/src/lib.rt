@@ -25,7 +25,7 @@ fn refuse_body(state: &[u8], body: &[u8], outcome: u8, out: &mut [u8]) -> usize
 {
     handling::refuse(
         state,
-        body[0],
+        body[words::HOST_AT],
         words::word2(body, words::PROCESS_AT),
         outcome,
         out,

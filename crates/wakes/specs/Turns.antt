@@ -25,7 +25,7 @@ use Rattle.oldest.specs.declared.Oldest.{Oldest}
 use Rattle.oldest.specs.declared.Oldest.the-variants.{At, Nobody}
 use Rattle.running.specs.Executed.{still, executed}
 use Rattle.running.specs.Answers.{turned-still, one-reply}
-use Rattle.wakes.specs.Leaving.{place, wokenAt}
+use Rattle.waking.specs.Leaving.{place, wokenAt}
 use Rattle.wakes.specs.Woken.{woken}
 
 -- ---- whom an answer names

@@ -17,15 +17,15 @@ use Rattle.words.specs.Over.{over}
 use Rattle.words.specs.OverLaws.{over-take, over-front}
 use Rattle.sections.specs.Shapes.{getD-member}
 use Rattle.queue.specs.Queue.{IsQueued}
-use Rattle.queue.specs.PlaceLaws.{noWaiting, waitingNth, rowEnd, bodyAt, bodySize, bodyOf, Stands, stands}
+use Rattle.queue.specs.PlaceLaws.{noWaiting, waitingNth, rowEnd, bodyPlace, bodySize, bodyOf, Stands, stands}
 use Rattle.lent.specs.Sections.{queueLent, queue-read, is-queued}
 use Rattle.lent.specs.Bodies.{row-within, bytes-legal, bytes-statement}
 use Rattle.running.specs.Executed.{MayRun, executed}
-use Rattle.wakes.specs.Leaving.{place, wokenAt}
+use Rattle.waking.specs.Leaving.{place, wokenAt}
 
 -- ---- a body copied
 
-pub copied : (p d l : List ℕ) (i n from : ℕ) → rowEnd i ≤ length p → n ≤ mostBody → mostBody ≤ length d → n ≡ bodySize p i → from ≡ bodyAt i
+pub copied : (p d l : List ℕ) (i n from : ℕ) → rowEnd i ≤ length p → n ≤ mostBody → mostBody ≤ length d → n ≡ bodySize p i → from ≡ bodyPlace i
     → l ≡ over d 0 (drop from p) n → take n l ≡ bodyOf p i
 copied p d l i n from row small room e f o =
     let back : List ℕ = drop from p in

@@ -1,4 +1,4 @@
--- `wakes::wake_at` meets its contract. Assumes nothing.
+-- `waking::wake_at` meets its contract. Assumes nothing.
 use Prim.Native.Nat.{ℕ, _≤_}
 use native.Mathlib.Omega.{arith}
 use mathlib.Core.Path.{_≡_, sym, ap, _∙_}
@@ -10,9 +10,9 @@ use Rattle.basis.specs.Sizes.{mostBody}
 use Rattle.model.specs.Run.{Run}
 use Rattle.layout.specs.States.{decode}
 use Rattle.header.specs.StoredLaws.{stored-says, said}
-use Rattle.wakes.specs.Queue.{row, few, in-row, woken-may, woken-turn}
-use Rattle.wakes.proofs.wake_at.Statement.{statement}
-use Rattle.wakes.proofs.wake_at.Tie as tie
+use Rattle.waking.specs.Queue.{row, few, in-row, woken-may, woken-turn}
+use Rattle.waking.proofs.wake_at.Statement.{statement}
+use Rattle.waking.proofs.wake_at.Tie as tie
 
 -- its body is copied
 module _ (c : tie.After-copy-body) where

@@ -1,11 +1,11 @@
--- `wakes::copy_body` meets its contract. Assumes nothing.
+-- `waking::copy_body` meets its contract. Assumes nothing.
 use Prim.Native.Nat.{_≤_}
 use native.Mathlib.Omega.{arith}
 use borrow.Author.Needs.{needs}
 use Rattle.basis.specs.Sizes.{mostBody}
-use Rattle.wakes.specs.Queue.{copied}
-use Rattle.wakes.proofs.copy_body.Statement.{statement}
-use Rattle.wakes.proofs.copy_body.Tie as tie
+use Rattle.waking.specs.Queue.{copied}
+use Rattle.waking.proofs.copy_body.Statement.{statement}
+use Rattle.waking.proofs.copy_body.Tie as tie
 
 -- the place and the length of the body are known
 module _ (c : tie.After-body-at) where
