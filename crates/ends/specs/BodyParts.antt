@@ -13,7 +13,7 @@ use Rattle.basis.specs.Logic.{true-is}
 use Rattle.basis.specs.Lists.{isEmpty}
 use Rattle.basis.specs.Numbers.{numberAt}
 use Rattle.words.specs.WordLaws.{numberAt-1}
-use Rattle.basis.specs.Sizes.{mostBody, hostWidth, processWidth, processAt, branchCountAt, branchesAt}
+use Rattle.basis.specs.Sizes.{hostAt, mostBody, hostWidth, processWidth, processAt, branchCountAt, branchesAt}
 use Rattle.model.specs.Statement.{Branch, Statement}
 use Rattle.model.specs.Legal.{legalStatement, parse}
 use Rattle.model.specs.Reading.{_>>=_, give, byte, several, counted, wholeOf, branch, statement}
@@ -26,13 +26,13 @@ unfoldable pub statementOf : (h p : ℕ) → Option (List Branch × List ℕ) �
 statementOf h p none = none
 statementOf h p (some r) = some (record { host = h; process = p; branches = r .0 }, r .1)
 
-pub statement-one : (b : List ℕ) → branchesAt ≤ length b → statement b ≡ statementOf (numberAt 0 hostWidth b) (numberAt processAt processWidth b) (several branch (getD b branchCountAt 0) (drop branchesAt b))
+pub statement-one : (b : List ℕ) → branchesAt ≤ length b → statement b ≡ statementOf (numberAt hostAt hostWidth b) (numberAt processAt processWidth b) (several branch (getD b branchCountAt 0) (drop branchesAt b))
 unfolding statement _>>=_ counted give statementOf
 statement-one b h =
-    rw (fixed-natural hostWidth (omega arith) .enough b 0 (omega arith), fixed-natural processWidth (omega arith) .enough b processAt (omega arith), fixed-byte .enough b branchCountAt (omega arith))
+    rw (fixed-natural hostWidth (omega arith) .enough b hostAt (omega arith), fixed-natural processWidth (omega arith) .enough b processAt (omega arith), fixed-byte .enough b branchCountAt (omega arith))
     (go (several branch (getD b branchCountAt 0) (drop branchesAt b)))
   where
-    go : (o : Option (List Branch × List ℕ)) → maybe o none (λ r. some (record { host = numberAt 0 hostWidth b; process = numberAt processAt processWidth b; branches = r .0 }, r .1)) ≡ statementOf (numberAt 0 hostWidth b) (numberAt processAt processWidth b) o
+    go : (o : Option (List Branch × List ℕ)) → maybe o none (λ r. some (record { host = numberAt hostAt hostWidth b; process = numberAt processAt processWidth b; branches = r .0 }, r .1)) ≡ statementOf (numberAt hostAt hostWidth b) (numberAt processAt processWidth b) o
     go none = refl
     go (some r) = refl
 
@@ -45,8 +45,8 @@ statement-short b h = host (which hostWidth (length b))
 
     process : hostWidth ≤ length b → (branchCountAt ≤ length b) ⊎ (length b < branchCountAt) → statement b ≡ none
     process l (inl m) =
-        rw (fixed-natural hostWidth (omega arith) .enough b 0 (omega arith), fixed-natural processWidth (omega arith) .enough b processAt (omega arith), byte-none (omega arith))
-    process l (inr m) = rw (fixed-natural hostWidth (omega arith) .enough b 0 (omega arith), fixed-natural processWidth (omega arith) .short b processAt (omega arith))
+        rw (fixed-natural hostWidth (omega arith) .enough b hostAt (omega arith), fixed-natural processWidth (omega arith) .enough b processAt (omega arith), byte-none (omega arith))
+    process l (inr m) = rw (fixed-natural hostWidth (omega arith) .enough b hostAt (omega arith), fixed-natural processWidth (omega arith) .short b processAt (omega arith))
 
     host : (hostWidth ≤ length b) ⊎ (length b < hostWidth) → statement b ≡ none
     host (inl l) = process l (which branchCountAt (length b))
@@ -57,7 +57,7 @@ pub record BodyParts (b : List ℕ) (st : Statement) : Type 0 where
   pub long : branchesAt ≤ length b
   pub size : length b ≤ mostBody
   pub legal : T (legalStatement st)
-  pub host : getD b 0 0 ≡ st .host
+  pub host : getD b hostAt 0 ≡ st .host
   pub process : numberAt processAt processWidth b ≡ st .process
   pub branches : several branch (getD b branchCountAt 0) (drop branchesAt b) ≡ some (st .branches, [])
 
@@ -74,10 +74,10 @@ body-parts b st e = let k = parse-some b st e in from k (which branchesAt (lengt
     left false x q = absurd (Option·none-ne-some st q)
 
     here : branchesAt ≤ length b → Parsed b st → (o : Option (List Branch × List ℕ)) → several branch (getD b branchCountAt 0) (drop branchesAt b) ≡ o
-        → maybe {B = Option Statement} (statementOf (numberAt 0 hostWidth b) (numberAt processAt processWidth b) o) none (λ r. provided (isEmpty (r .1)) (r .0)) ≡ some st → BodyParts b st
+        → maybe {B = Option Statement} (statementOf (numberAt hostAt hostWidth b) (numberAt processAt processWidth b) o) none (λ r. provided (isEmpty (r .1)) (r .0)) ≡ some st → BodyParts b st
     here l k none q w = absurd (Option·none-ne-some st w)
     here l k (some r) q w =
-        let z = left (isEmpty (r .1)) (record { host = numberAt 0 hostWidth b; process = numberAt processAt processWidth b; branches = r .0 }) w in
+        let z = left (isEmpty (r .1)) (record { host = numberAt hostAt hostWidth b; process = numberAt processAt processWidth b; branches = r .0 }) w in
         let none : r .1 ≡ [] = empty (r .1) (true-is (isEmpty (r .1)) (z .0)) in
         let bs : r .0 ≡ st .branches = ap (λ (x : Statement). x .branches) (z .1) in
         record {

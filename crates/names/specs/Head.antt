@@ -12,7 +12,7 @@ use Rattle.basis.specs.Choice.{maybe, provided}
 use Rattle.basis.specs.Logic.{and-l, and-r}
 use Rattle.basis.specs.Lists.{isEmpty}
 use Rattle.basis.specs.Numbers.{numberAt}
-use Rattle.basis.specs.Sizes.{hostWidth, processWidth, processAt, branchCountAt, branchesAt, hosts}
+use Rattle.basis.specs.Sizes.{hostAt, hostWidth, processWidth, processAt, branchCountAt, branchesAt, hosts}
 use Rattle.model.specs.Statement.{Branch, Statement}
 use Rattle.model.specs.Reading.{Reader, _>>=_, give, several, counted, wholeOf, branch, statement}
 use Rattle.model.specs.Legal.{legalBody, legalStatement}
@@ -25,7 +25,7 @@ use Rattle.statements.specs.Fixed.{fixed-natural, fixed-byte}
 -- host, process, branch count, branches
 pub record Head (b : List ℕ) (st : Statement) : Type 0 where
   pub long : branchesAt ≤ length b
-  pub host : numberAt 0 hostWidth b ≡ st .host
+  pub host : numberAt hostAt hostWidth b ≡ st .host
   pub process : numberAt processAt processWidth b ≡ st .process
   pub branches : several branch (getD b branchCountAt 0) (drop branchesAt b) ≡ some (st .branches, [])
 
@@ -46,12 +46,12 @@ unfolding statement _>>=_ counted give
 head-of b st w = one (which processAt (length b)) (whole-some statement b st w)
   where
     made : Option (List Branch × List ℕ) → Option (Statement × List ℕ)
-    made o = maybe o none (λ r. some (record { host = numberAt 0 hostWidth b; process = numberAt processAt processWidth b; branches = r .0 }, r .1))
+    made o = maybe o none (λ r. some (record { host = numberAt hostAt hostWidth b; process = numberAt processAt processWidth b; branches = r .0 }, r .1))
 
     parts : branchesAt ≤ length b → (o : Option (List Branch × List ℕ)) → several branch (getD b branchCountAt 0) (drop branchesAt b) ≡ o → made o ≡ some (st, []) → Head b st
     parts l none q e = absurd (Option·none-ne-some (st, []) e)
     parts l (some r) q e =
-        let same = Option·some-injective (record { host = numberAt 0 hostWidth b; process = numberAt processAt processWidth b; branches = r .0 }, r .1) (st, []) e in
+        let same = Option·some-injective (record { host = numberAt hostAt hostWidth b; process = numberAt processAt processWidth b; branches = r .0 }, r .1) (st, []) e in
         record {
           long = l;
           host = ap (λ (z : Statement × List ℕ). z .0 .host) same;
@@ -62,13 +62,13 @@ head-of b st w = one (which processAt (length b)) (whole-some statement b st w)
     four : branchCountAt ≤ length b → (branchesAt ≤ length b) ⊎ (length b < branchesAt) → statement b ≡ some (st, []) → Head b st
     four l (inl m) e =
         parts m (several branch (getD b branchCountAt 0) (drop branchesAt b)) refl
-        (rw (fixed-natural hostWidth (omega arith) .enough b 0 (omega arith), fixed-natural processWidth (omega arith) .enough b processAt (omega arith), fixed-byte .enough b branchCountAt (omega arith)) at e)
+        (rw (fixed-natural hostWidth (omega arith) .enough b hostAt (omega arith), fixed-natural processWidth (omega arith) .enough b processAt (omega arith), fixed-byte .enough b branchCountAt (omega arith)) at e)
     four l (inr m) e =
-        absurd (Option·none-ne-some (st, []) (rw (fixed-natural hostWidth (omega arith) .enough b 0 (omega arith), fixed-natural processWidth (omega arith) .enough b processAt (omega arith), fixed-byte .short b branchCountAt (omega arith)) at e))
+        absurd (Option·none-ne-some (st, []) (rw (fixed-natural hostWidth (omega arith) .enough b hostAt (omega arith), fixed-natural processWidth (omega arith) .enough b processAt (omega arith), fixed-byte .short b branchCountAt (omega arith)) at e))
 
     three : processAt ≤ length b → (branchCountAt ≤ length b) ⊎ (length b < branchCountAt) → statement b ≡ some (st, []) → Head b st
     three l (inl m) e = four m (which branchesAt (length b)) e
-    three l (inr m) e = absurd (Option·none-ne-some (st, []) (rw (fixed-natural hostWidth (omega arith) .enough b 0 (omega arith), fixed-natural processWidth (omega arith) .short b processAt (omega arith)) at e))
+    three l (inr m) e = absurd (Option·none-ne-some (st, []) (rw (fixed-natural hostWidth (omega arith) .enough b hostAt (omega arith), fixed-natural processWidth (omega arith) .short b processAt (omega arith)) at e))
 
     one : (processAt ≤ length b) ⊎ (length b < processAt) → statement b ≡ some (st, []) → Head b st
     one (inl m) e = three m (which branchCountAt (length b)) e
@@ -86,8 +86,8 @@ module _ (b : List ℕ) (t : T (legalBody b)) where
   pub body-head : Head b (statementOf b)
   body-head = head-of b (statementOf b) (parse-some b (statementOf b) (legal-parse b t) .whole)
 
-  pub body-host : getD b 0 0 ≡ (statementOf b) .host
+  pub body-host : getD b hostAt 0 ≡ (statementOf b) .host
   body-host = sym (numberAt-1 0 b (omega (arith, body-head .long))) ∙ body-head .host
 
-  pub body-host-small : getD b 0 0 < hosts
+  pub body-host-small : getD b hostAt 0 < hosts
   body-host-small = omega (arith, body-host, host-small (statementOf b) (parse-some b (statementOf b) (legal-parse b t) .legal))

@@ -7,7 +7,7 @@ use lib.ListN.{getD}
 use lib.Dec.{T, eqb}
 use Rattle.basis.specs.Lists.{any, isIn}
 use Rattle.basis.specs.Numbers.{numberAt}
-use Rattle.basis.specs.Sizes.{processAt, processWidth}
+use Rattle.basis.specs.Sizes.{hostAt, processAt, processWidth}
 use Rattle.model.specs.Statement.{Statement, spacesNamed}
 use Rattle.model.specs.Legal.{legalBody}
 use Rattle.model.specs.Run.{Space, Waiting, Run, isOpen, isDenied}
@@ -57,7 +57,7 @@ module _ (s : Run) (p n : ℕ) (ss : List Space) (same : ss ≡ s .spaces) (t : 
 
 -- ---- AG: 7 and 9 of its host and process, then 10 and 11 of its spaces
 
-module _ (s : Run) (b : List ℕ) (process r : ℕ) (t : T (legalBody b)) (e : process ≡ numberAt processAt processWidth b) (f : r ≡ refusal (standing s (getD b 0 0) process)) where
+module _ (s : Run) (b : List ℕ) (process r : ℕ) (t : T (legalBody b)) (e : process ≡ numberAt processAt processWidth b) (f : r ≡ refusal (standing s (getD b hostAt 0) process)) where
   stood : r ≡ refusal (standing s ((statementOf b) .host) ((statementOf b) .process))
   stood = f ∙ (λ i. refusal (standing s (body-host b t i) ((e ∙ body-head b t .process) i)))
 

@@ -4,6 +4,8 @@ ghost use Rattle.calls.specs.Calls.{lent, answer, freshAnswer, takeCall, freshC
 ghost use Rattle.writer.specs.Writer.{writtenIs, beginOn, addOperation, addBranch};
 use statements::Operation;
 
+mod steps;
+
 // The fresh-state call: 0, or 1 "for length".
 #[no_mangle]
 pub extern "C" fn replica_fresh(state: &mut [u8]) -> u64

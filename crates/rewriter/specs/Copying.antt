@@ -11,7 +11,7 @@ use lib.Dec.{T, leb, le→leb}
 use Rattle.basis.specs.Logic.{and-l, and-r, both}
 use Rattle.basis.specs.Lists.{all}
 use Rattle.basis.specs.Numbers.{numberAt}
-use Rattle.basis.specs.Sizes.{processWidth, mostBody, processAt, branchCountAt, branchesAt, countWidth}
+use Rattle.basis.specs.Sizes.{hostAt, processWidth, mostBody, processAt, branchCountAt, branchesAt, countWidth}
 use Rattle.model.specs.Statement as model
 use Rattle.model.specs.Statement.{Branch, Statement}
 use Rattle.model.specs.Reading.{several, give, operation, branch}
@@ -259,7 +259,7 @@ module _ (body buffer : List ℕ) (is-legal : legalBody body ≡ true) (byte : (
     whole : Statement
     is : BodyOf body whole
     long : branchesAt ≤ length body
-    host : getD body 0 0 ≡ whole .host
+    host : getD body hostAt 0 ≡ whole .host
     process : numberAt processAt processWidth body ≡ whole .process
     count : 1 ≤ getD body branchCountAt 0
     br : Branch
@@ -303,7 +303,7 @@ module _ (body buffer : List ℕ) (is-legal : legalBody body ≡ true) (byte : (
   first-count = first-branch .count
 
   -- begun: the operations of the first branch are ahead
-  pub begin-turn : (host process : ℕ) → host ≡ getD body 0 0 → process ≡ numberAt processAt processWidth body → (a : Added) (next : List ℕ)
+  pub begin-turn : (host process : ℕ) → host ≡ getD body hostAt 0 → process ≡ numberAt processAt processWidth body → (a : Added) (next : List ℕ)
       → writtenIs a next ≡ beginOn buffer host process (r .operation) → Underway body buffer (r .end + countWidth) (getD body (r .end) 0) (getD body branchCountAt 0 - 1) (a .fill) next
   begin-turn host process eh ep a next w =
       let k = first-branch in

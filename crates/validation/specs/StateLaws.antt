@@ -1,5 +1,5 @@
 -- The tests of header and sections, all together, are `isState`. Assumes nothing.
-use mathlib.Core.Path.{_≡_, refl, sym, ap, _∙_}
+use mathlib.Core.Path.{_≡_, refl, sym, ap, subst, _∙_}
 use Prim.Native.Nat.{ℕ, _+_, _*_, _≤_, _<_}
 use native.Mathlib.Omega.{arith}
 use mathlib.Core.Bool.{Bool, true, false, not, _&&_}
@@ -155,33 +155,31 @@ module _ (b : List ℕ) (bytes : T (areBytes b)) (long : length b ≡ stateSize)
 
 -- ---- what the tests of the sections show
 
+-- what ends within a state ends within its bytes
+pub within : (b : List ℕ) (n : ℕ) → length b ≡ stateSize → T (leb n stateSize) → n ≤ length b
+within b n e t = subst (λ (k : ℕ). n ≤ k) (sym e) (leb→le n stateSize t)
+
 pub section-long : (b : List ℕ) (whole at : ℕ) → at + whole ≤ length b → length (take whole (drop at b)) ≡ whole
 section-long b whole at h = length-take-le whole (drop at b) (simp length-drop (omega arith))
 
-module _ (s : Run) (ss : List Space) (ts : List Tuple) (ws : List Waiting) (last : ℕ) (el : last ≡ s .last) (o : Bool) (eo : o ≡ inOrder last ws) where
-  order-is : inOrder (s .last) ws ≡ o
-  order-is = sym (eo ∙ ap (λ (n : ℕ). inOrder n ws) el)
-
-  pub no-order : o ≡ false → false ≡ waitsLegal s ss ts ws
+module _ (last : ℕ) (up : List Bool) (ss : List Space) (ts : List Tuple) (ws : List Waiting) (o : Bool) (eo : o ≡ inOrder last ws) where
+  pub no-order : o ≡ false → false ≡ waitsLegal last up ss ts ws
   unfolding waitsLegal
-  no-order z = rw (order-is ∙ z)
+  no-order z = rw (sym eo ∙ z)
 
   module _ (yo : o ≡ true) (d : Bool) (ed : d ≡ pairwise otherProcess ws) where
-    pub no-process : d ≡ false → false ≡ waitsLegal s ss ts ws
+    pub no-process : d ≡ false → false ≡ waitsLegal last up ss ts ws
     unfolding waitsLegal
-    no-process z = rw (order-is ∙ yo, sym ed ∙ z)
+    no-process z = rw (sym eo ∙ yo, sym ed ∙ z)
 
-    module _ (yd : d ≡ true) (up : List Bool) (eu : up ≡ s .up) (m : Bool) (em : m ≡ all (mayWait up ss) ws) where
-      may-is : all (mayWait (s .up) ss) ws ≡ m
-      may-is = sym (em ∙ ap (λ (u : List Bool). all (mayWait u ss) ws) eu)
-
-      pub no-wait : m ≡ false → false ≡ waitsLegal s ss ts ws
+    module _ (yd : d ≡ true) (m : Bool) (em : m ≡ all (mayWait up ss) ws) where
+      pub no-wait : m ≡ false → false ≡ waitsLegal last up ss ts ws
       unfolding waitsLegal
-      no-wait z = rw (order-is ∙ yo, sym ed ∙ yd, may-is ∙ z)
+      no-wait z = rw (sym eo ∙ yo, sym ed ∙ yd, sym em ∙ z)
 
-      pub then-ready : m ≡ true → all (unready ts) ws ≡ waitsLegal s ss ts ws
+      pub then-ready : m ≡ true → (r : Bool) → r ≡ all (unready ts) ws → r ≡ waitsLegal last up ss ts ws
       unfolding waitsLegal
-      then-ready z = rw (order-is ∙ yo, sym ed ∙ yd, may-is ∙ z)
+      then-ready z r e = rw (sym eo ∙ yo, sym ed ∙ yd, sym em ∙ z) e
 
 -- the sections one after the other
 module _ (b : List ℕ) (n next m k : ℕ) (en : n ≡ length ((decode b) .spaces)) (ex : next ≡ (decode b) .next) (r : Bool) (er : r ≡ spacesLegal (spacesIn b) n next) where
@@ -208,9 +206,10 @@ module _ (b : List ℕ) (n next m k : ℕ) (en : n ≡ length ((decode b) .space
       unfolding contentsLegal
       no-queue z = rw (spaces-test ∙ yr, tuples-test ∙ yt, queue-test ∙ z)
 
-      pub then-waits : q ≡ true → waitsLegal (decode b) (spacesOf (spacesIn b) n) (tuplesOf (tuplesIn b) m) (waitingOf (waitingIn b) k) ≡ contentsLegal b
+      pub then-waits : q ≡ true → (last : ℕ) → last ≡ (decode b) .last → (up : List Bool) → up ≡ (decode b) .up
+          → (w : Bool) → w ≡ waitsLegal last up (spacesOf (spacesIn b) n) (tuplesOf (tuplesIn b) m) (waitingOf (waitingIn b) k) → w ≡ contentsLegal b
       unfolding contentsLegal
-      then-waits z = rw (spaces-test ∙ yr, tuples-test ∙ yt, queue-test ∙ z, en, em, ek)
+      then-waits z last el up eu w e = e ∙ rw (spaces-test ∙ yr, tuples-test ∙ yt, queue-test ∙ z, en, em, ek, el, eu)
 
 -- the sections that passed
 module _ (b : List ℕ) (bytes : T (areBytes b)) (long : length b ≡ stateSize) where

@@ -41,8 +41,8 @@ unfoldable pub tuplesLegal : List Space → List ℕ → ℕ → Bool
 tuplesLegal ss p m = sameBytes (area tuplesSize tupleSize tupleBytes (tuplesOf p m)) p && (all legalTuple (tuplesOf p m) && all (inOpen ss) (tuplesOf p m))
 
 -- what waits: its order, its processes, each statement, and none is ready
-unfoldable pub waitsLegal : Run → List Space → List Tuple → List Waiting → Bool
-waitsLegal s ss ts ws = inOrder (s .last) ws && (pairwise otherProcess ws && (all (mayWait (s .up) ss) ws && all (unready ts) ws))
+unfoldable pub waitsLegal : (last : ℕ) (up : List Bool) → List Space → List Tuple → List Waiting → Bool
+waitsLegal last up ss ts ws = inOrder last ws && (pairwise otherProcess ws && (all (mayWait up ss) ws && all (unready ts) ws))
 
 -- all sections, by the counts of the header
 unfoldable pub contentsLegal : List ℕ → Bool
@@ -51,4 +51,4 @@ contentsLegal b =
     let ss = spacesOf (spacesIn b) (length (s .spaces)) in
     spacesLegal (spacesIn b) (length (s .spaces)) (s .next)
     && (tuplesLegal ss (tuplesIn b) (length (s .tuples))
-    && (queueLegal (waitingIn b) (length (s .waiting)) && waitsLegal s ss (tuplesOf (tuplesIn b) (length (s .tuples))) (waitingOf (waitingIn b) (length (s .waiting)))))
+    && (queueLegal (waitingIn b) (length (s .waiting)) && waitsLegal (s .last) (s .up) ss (tuplesOf (tuplesIn b) (length (s .tuples))) (waitingOf (waitingIn b) (length (s .waiting)))))

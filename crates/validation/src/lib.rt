@@ -46,33 +46,29 @@ fn tuples_ok(tuples: &[u8], m: usize, spaces: &[u8], n: usize) -> bool
 }
 
 // The waiting statements: their order, "of a process that no other entry has", each may wait, and none is ready.
-fn waits_ok(b: &[u8], n: usize, m: usize, k: usize) -> bool
-    requires { ⌜ (length (now b) ≡ stateSize) × (m ≤ mostTuples) × IsListed (spacesIn (now b)) n × Rising (spacesOf (spacesIn (now b)) n) × IsQueued (waitingIn (now b)) k ⌝ }
-    ensures { λ r. ⌜ r ≡ waitsLegal (decode (now (b .entry))) (spacesOf (spacesIn (now (b .entry))) n) (tuplesOf (tuplesIn (now (b .entry))) m) (waitingOf (waitingIn (now (b .entry))) k) ⌝ }
+fn waits_ok(
+    waiting: &[u8],
+    k: usize,
+    last: u32,
+    up: u16,
+    spaces: &[u8],
+    n: usize,
+    tuples: &[u8],
+    m: usize,
+) -> bool
+    requires { ⌜ IsQueued (now waiting) k × IsListed (now spaces) n × Rising (spacesOf (now spaces) n) × (length (now tuples) ≡ tuplesSize) × (m ≤ mostTuples) ⌝ }
+    ensures { λ r. ⌜ r ≡ waitsLegal last (bits hosts up) (spacesOf (now (spaces .entry)) n) (tuplesOf (now (tuples .entry)) m) (waitingOf (now (waiting .entry)) k) ⌝ }
 {
-    let last = header::last(b);
-    if !queue::in_order(&b[words::WAITING_AT..words::WAITING_END], k, last) {
+    if !queue::in_order(waiting, k, last) {
         return false;
     }
-    if !queue::processes_differ(&b[words::WAITING_AT..words::WAITING_END], k) {
+    if !queue::processes_differ(waiting, k) {
         return false;
     }
-    let up = header::hosts(b);
-    if !waiting::all_may_wait(
-        &b[words::WAITING_AT..words::WAITING_END],
-        k,
-        &b[words::SPACES_AT..words::SPACES_END],
-        n,
-        up,
-    ) {
+    if !waiting::all_may_wait(waiting, k, spaces, n, up) {
         return false;
     }
-    oldest::none_ready(
-        &b[words::WAITING_AT..words::WAITING_END],
-        k,
-        &b[words::TUPLES_AT..words::TUPLES_END],
-        m,
-    )
+    oldest::none_ready(waiting, k, tuples, m)
 }
 
 // The sections, of bytes whose header is that of a state.
@@ -81,23 +77,30 @@ fn contents_ok(b: &[u8]) -> bool
     ensures { λ r. ⌜ r ≡ contentsLegal (now (b .entry)) ⌝ }
 {
     let n = header::space_count(b);
-    if !spaces::are_legal(&b[words::SPACES_AT..words::SPACES_END], n, header::next(b)) {
+    let spaces = &b[words::SPACES_AT..words::SPACES_END];
+    if !spaces::are_legal(spaces, n, header::next(b)) {
         return false;
     }
     let m = header::tuple_count(b);
-    if !tuples_ok(
-        &b[words::TUPLES_AT..words::TUPLES_END],
-        m,
-        &b[words::SPACES_AT..words::SPACES_END],
-        n,
-    ) {
+    let tuples = &b[words::TUPLES_AT..words::TUPLES_END];
+    if !tuples_ok(tuples, m, spaces, n) {
         return false;
     }
     let k = header::waiting_count(b);
-    if !waiting::is_queue(&b[words::WAITING_AT..words::WAITING_END], k) {
+    let waiting = &b[words::WAITING_AT..words::WAITING_END];
+    if !waiting::is_queue(waiting, k) {
         return false;
     }
-    waits_ok(b, n, m, k)
+    waits_ok(
+        waiting,
+        k,
+        header::last(b),
+        header::hosts(b),
+        spaces,
+        n,
+        tuples,
+        m,
+    )
 }
 
 // "It is a state exactly if this layout and every limit hold, ..".

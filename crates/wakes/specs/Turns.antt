@@ -4,7 +4,7 @@ use Prim.Native.Nat.{ℕ, _≤_, _<_}
 use native.Mathlib.Omega.{arith}
 use mathlib.Core.Option.{Option, none, some, Option·getD}
 use mathlib.Core.List.{List, [], _∷_, flatMap}
-use lib.ListN.{length, getD}
+use lib.ListN.{length, take, getD}
 use lib.Seq.{getD-at}
 use lib.Dec.{T-not}
 use Rattle.basis.specs.Choice.{maybe}
@@ -18,15 +18,32 @@ use Rattle.model.specs.Settle.{attempt-none, wake-some}
 use Rattle.layout.specs.States.{decode}
 use Rattle.layout.specs.Replies.{repliesBytes}
 use Rattle.layout.specs.ReplyLaws.{reply-length}
-use Rattle.layout.specs.Stored.{IsStored, Turned}
+use Rattle.layout.specs.Stored.{IsStored, Turned, statementOf}
+use Rattle.header.specs.StoredLaws.{stored-says}
 use Rattle.queue.specs.PlaceLaws.{noWaiting}
 use Rattle.oldest.specs.Searching.{readyIn, oldestOf}
 use Rattle.oldest.specs.declared.Oldest.{Oldest}
 use Rattle.oldest.specs.declared.Oldest.the-variants.{At, Nobody}
-use Rattle.running.specs.Executed.{still, executed}
+use Rattle.running.specs.Executed.{MayRun, still, executed}
 use Rattle.running.specs.Answers.{turned-still, one-reply}
-use Rattle.waking.specs.Leaving.{place, wokenAt}
-use Rattle.wakes.specs.Woken.{woken}
+use Rattle.leaving.specs.Leaving.{place, without, Gone}
+use Rattle.leaving.specs.LeavingLaws.{place-opened}
+use Rattle.wakes.specs.Woken.{wokenAt, woken}
+
+-- ---- a statement that has left the queue
+
+module _ (b : List ℕ) (i : ℕ) (state copy : List ℕ) (p n : ℕ) (g : Gone (decode b) i state copy p n) where
+  says : decode state ≡ without (decode b) i
+  says = stored-says state (without (decode b) i) (g .stored)
+
+  -- it may run
+  pub gone-may : IsStored b → i < length ((decode b) .waiting) → MayRun (decode state) (take n copy)
+  gone-may h below = record { legal = g .legal; opened = rw (g .statement, says) (place-opened b i h below) }
+
+  -- and what it does is its turn
+  pub gone-turn : (buffer bytes out : List ℕ) (m : ℕ) → Turned (executed (decode state) p (statementOf (take n copy))) buffer bytes out m → Turned (wokenAt (decode b) i) buffer bytes out m
+  unfolding wokenAt
+  gone-turn buffer bytes out m r = subst (λ (u : Turn). Turned u buffer bytes out m) (λ k. executed (says k) (g .position k) (g .statement k)) r
 
 -- ---- whom an answer names
 

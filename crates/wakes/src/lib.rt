@@ -1,12 +1,22 @@
 // Rule 7 on the bytes of a state.
-ghost use Prim.Native.Nat.{_+_, _*_, _≤_};
+ghost use Prim.Native.Nat.{_+_, _*_, _≤_, _<_};
 ghost use lib.ListN.{length};
 ghost use Rattle.basis.specs.Sizes.{mostReply};
 ghost use Rattle.model.specs.Run.{settle as settles};
 ghost use Rattle.layout.specs.States.{decode};
 ghost use Rattle.layout.specs.Stored.{IsStored, Turned};
-ghost use Rattle.wakes.specs.Woken.{Further, woken};
+ghost use Rattle.wakes.specs.Woken.{Further, wokenAt, woken};
 use oldest::Oldest;
+
+// The waiting statement at an index "runs and leaves the queue, whatever its outcome".
+fn wake_at(state: &mut [u8], i: usize, out: &mut [u8]) -> usize
+    requires { ⌜ IsStored (now state) × (i < length ((decode (now state)) .waiting)) × (mostReply ≤ length (now out)) ⌝ }
+    ensures { λ r. ⌜ Turned (wokenAt (decode (now (state .entry))) i) (now (out .entry)) (now (state .exit)) (now (out .exit)) r × (r ≤ mostReply) ⌝ }
+{
+    let mut body = [0u8; words::MOST_BODY];
+    let who = leaving::leave(state, i, &mut body);
+    running::run_body(state, who.position, &body[..who.size], out)
+}
 
 // One turn of rule 7; 0 where no waiting statement has a guard that holds.
 fn wake_one(state: &mut [u8], out: &mut [u8]) -> usize
@@ -21,7 +31,7 @@ fn wake_one(state: &mut [u8], out: &mut [u8]) -> usize
         &state[words::TUPLES_AT..words::TUPLES_END],
         m,
     ) {
-        Oldest::At(i) => waking::wake_at(state, i, out),
+        Oldest::At(i) => wake_at(state, i, out),
         Oldest::Nobody => 0,
     }
 }
