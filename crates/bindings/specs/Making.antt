@@ -1,25 +1,23 @@
 -- The tuple that an out makes: its values, and its bytes one value after the other. Assumes nothing.
 use mathlib.Core.Path.{_≡_, refl, sym, ap, subst, _∙_}
-use Prim.Native.Nat.{ℕ, zero, suc, _+_, _*_, _<_}
+use Prim.Native.Nat.{ℕ, zero, suc, _+_, _<_}
 use mathlib.Core.Bool.{Bool, true, false}
 use mathlib.Core.Option.{Option, none, some, Option·map}
 use mathlib.Core.List.{List, [], _∷_, _++_, append-assoc, append-nil}
 use lib.ListN.{length, drop, length-append}
 use lib.Dec.{T}
 use Rattle.basis.specs.Choice.{maybe, provided}
-use Rattle.basis.specs.Sizes.{mostFields, valueSize, tupleValuesAt}
+use Rattle.basis.specs.Sizes.{mostFields}
 use Rattle.model.specs.Value.{Value, value, legalValue}
 use Rattle.model.specs.Statement as Model
 use Rattle.model.specs.Statement.{actual, formal, reference, sum, difference, anonymous}
-use Rattle.model.specs.Writing.{valueBytes}
 use Rattle.model.specs.Matching.{Tuple, Bindings, valueOf}
 use Rattle.model.specs.Execution.{made, madeAll}
-use Rattle.words.specs.Over.{over}
 use Rattle.sums.specs.Meaning.{sumOf}
 use Rattle.statements.specs.declared.Field.{Field}
 use Rattle.statements.specs.Flat.{fieldOf, fieldIs}
 use Rattle.tuples.specs.Section.{entryBytes}
-use Rattle.tuples.specs.Entry.{begun}
+use Rattle.tuples.specs.Entry.{begun, withValue}
 use Rattle.tuples.specs.EntryLaws.{begun-more, begun-all}
 
 -- ---- one field
@@ -121,7 +119,7 @@ module _ (bs : Bindings) (s : ℕ) (fs : List Model.Field) (n : ℕ) where
   making-none tuple e = record { front = []; count = refl; bytes = e; rest = rest-none (madeAll bs fs) }
 
   pub making-more : (j : ℕ) (tuple tuple′ : List ℕ) (f : Model.Field) (k b : ℕ) (g : Bool) → Making bs s fs n j tuple → j < mostFields → drop j fs ≡ f ∷ drop (j + 1) fs
-      → givenIs k g b ≡ made bs f → g ≡ true → tuple′ ≡ over tuple (tupleValuesAt + j * valueSize) (valueBytes (value k b)) valueSize → Making bs s fs n (j + 1) tuple′
+      → givenIs k g b ≡ made bs f → g ≡ true → tuple′ ≡ withValue j (value k b) tuple → Making bs s fs n (j + 1) tuple′
   unfolding madeAll provided
   making-more j tuple tuple′ f k b g m few d e t q =
       let v : Value = value k b in

@@ -1,7 +1,7 @@
 -- Written by tools/states: states as literal bytes, worked out by hand from "The state buffer" of document 01; of its conditions, those on length, header and spaces (the others: `contents`). Assumes nothing.
 use mathlib.Core.Path.{_≡_, refl}
 use Prim.Native.Nat.{ℕ}
-use mathlib.Core.Bool.{Bool, true, false}
+use mathlib.Core.Bool.{true, false}
 use mathlib.Core.List.{List, [], _∷_, _++_, map}
 use lib.ListN.{replicate}
 use Rattle.basis.specs.Lists.{zeros}

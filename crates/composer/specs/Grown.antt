@@ -1,7 +1,7 @@
 -- The bytes of a statement with one addition more: those it had, with one count raised, and those of the addition. Assumes nothing.
 use mathlib.Core.Path.{_≡_, refl, sym, ap, _∙_}
 use mathlib.Core.List.{List, [], _∷_, _++_, flatMap, append-assoc, append-nil, List·Memᴰ·head, List·Memᴰ·tail, Memᴰ·append-right}
-use Prim.Native.Nat.{ℕ, suc, _+_, _≤_, _<_}
+use Prim.Native.Nat.{ℕ, _+_, _≤_, _<_}
 use native.Mathlib.Nat.{suc-add}
 use native.Mathlib.Omega.{arith}
 use lib.ListN.{length, take, set, getD, length-append}
@@ -9,15 +9,16 @@ use lib.Seq.{take-set-lt, getD-take, set-append-seam, getD-append-seam, getD-app
 use lib.Dec.{T}
 use Rattle.basis.specs.ListLaws.{Each, each-nil, each-cons, each-append}
 use Rattle.basis.specs.Numbers.{bigEndian}
-use Rattle.basis.specs.NumberLaws.{bigEndian-length}
+use Rattle.basis.specs.NumberLaws.{bigEndian-length, one-byte}
+use Rattle.basis.specs.PadLaws.{flatMap-append}
 use Rattle.basis.specs.Sizes.{hostWidth, processWidth, processes, branchCountAt, branchesAt}
 use Rattle.model.specs.Statement.{Operation, Branch, operations, Statement}
 use Rattle.model.specs.Legal.{legalStatement}
 use Rattle.model.specs.Writing.{countedBytes, operationBytes, branchBytes, statementBytes}
 use Rattle.model.specs.RoundTrip.{FitsOperation, FitsBranch, FitsStatement, legal-fits}
 use Rattle.writer.specs.Writer.{begun, inLast, withOperation, withBranch}
-use Rattle.parts.specs.Fields.{flatMap-append, flatMap-one}
-use Rattle.parts.specs.Operations.{one-byte}
+use Rattle.writer.specs.WriterLaws.{in-last-length}
+use Rattle.parts.specs.Fields.{flatMap-one}
 use Rattle.ends.specs.Counts.{beforeCount, before-more, countAt, legal-some}
 
 -- ---- a byte raised by one
@@ -66,12 +67,6 @@ in-last-bytes b [] o = last-bytes b o
 in-last-bytes b (c ∷ bs) o =
     rw (in-last-more b c bs o, before-more b c bs, branches-more b (inLast (c ∷ bs) o), branches-more b (c ∷ bs), raised-right (branchBytes b) (flatMap branchBytes (c ∷ bs)) (beforeCount (c ∷ bs)))
     (ap (λ (l : List ℕ). branchBytes b ++ l) (in-last-bytes c bs o) ∙ sym (append-assoc (branchBytes b) (raised (flatMap branchBytes (c ∷ bs)) (beforeCount (c ∷ bs))) (operationBytes o)))
-
-in-last-length : (bs : List Branch) (o : Operation) → length (inLast bs o) ≡ length bs
-unfolding inLast
-in-last-length [] o = refl
-in-last-length (b ∷ []) o = refl
-in-last-length (b ∷ c ∷ bs) o = ap suc (in-last-length (c ∷ bs) o)
 
 -- ---- the whole
 

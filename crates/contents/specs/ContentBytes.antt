@@ -1,7 +1,7 @@
 -- Written by tools/states: states as literal bytes, worked out by hand from "The state buffer" of document 01; of its conditions, those on tuples and waiting statements (the others: `cases`). Assumes nothing.
 use mathlib.Core.Path.{_≡_, refl}
 use Prim.Native.Nat.{ℕ}
-use mathlib.Core.Bool.{Bool, true, false}
+use mathlib.Core.Bool.{true, false}
 use mathlib.Core.List.{List, [], _∷_, _++_, map}
 use Rattle.basis.specs.Lists.{zeros}
 use Rattle.layout.specs.IsState.{isState}

@@ -41,12 +41,14 @@ fn field(form: u8, kind: u8, variable: u8, bits: u32) -> Field {
 // An operation on space 0 with two fields: a name, and another.
 fn operation(code: u8, name: u32, second: Field) -> Operation {
     let first = field(GIVEN, NAME, 0, name);
+    let mut fields = [first; words::MOST_FIELDS];
+    fields[1] = second;
     Operation {
         code,
         from: 0,
         to: 0,
         count: 2,
-        fields: [first, second, first, first, first, first],
+        fields,
     }
 }
 

@@ -1,6 +1,6 @@
 -- A body in its parts: host, process, branch count, and its branches to the end. Assumes nothing.
 use mathlib.Core.Path.{_≡_, refl, sym, ap, _∙_}
-use Prim.Native.Nat.{ℕ, _+_, _≤_, _<_}
+use Prim.Native.Nat.{ℕ, _≤_, _<_}
 use native.Mathlib.Omega.{arith}
 use mathlib.Core.Bool.{Bool, true, false, cond}
 use mathlib.Core.Logic.{_⊎_, inl, inr}
@@ -50,7 +50,7 @@ statement-short b h = host (which hostWidth (length b))
 
     host : (hostWidth ≤ length b) ⊎ (length b < hostWidth) → statement b ≡ none
     host (inl l) = process l (which branchCountAt (length b))
-    host (inr l) = rw (fixed-natural hostWidth (omega arith) .short b 0 (omega arith))
+    host (inr l) = rw (fixed-natural hostWidth (omega arith) .short b hostAt (omega arith))
 
 -- a legal body: host, process, branch count, and its branches to the end
 pub record BodyParts (b : List ℕ) (st : Statement) : Type 0 where
@@ -84,7 +84,7 @@ body-parts b st e = let k = parse-some b st e in from k (which branchesAt (lengt
           long = l;
           size = k .size;
           legal = k .legal;
-          host = sym (numberAt-1 0 b (omega arith)) ∙ ap (λ (x : Statement). x .host) (z .1);
+          host = sym (numberAt-1 hostAt b (omega arith)) ∙ ap (λ (x : Statement). x .host) (z .1);
           process = ap (λ (x : Statement). x .process) (z .1);
           branches = q ∙ (λ i. some (bs i, none i));
         }

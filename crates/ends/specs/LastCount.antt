@@ -20,12 +20,13 @@ use Rattle.model.specs.Reading.{Reader, several, operation, branch}
 use Rattle.model.specs.Writing.{operationBytes, branchBytes}
 use Rattle.model.specs.ReadBack.{Writes, writes-operation, writes-branch, several-length}
 use Rattle.statements.specs.At.{position, found}
+use Rattle.statements.specs.BranchAt.{branch-at}
 use Rattle.statements.specs.Flat.{operationIs, readIs, fewFields, operationAt}
 use Rattle.ends.specs.Ends.{endAt}
 use Rattle.ends.specs.BranchEnds.{fewIn}
 use Rattle.ends.specs.LegalEnds.{legal-fewIn, legal-end}
 use Rattle.ends.specs.BodyParts.{body-parts}
-use Rattle.ends.specs.Positions.{one-branch, operation-at, branch-at}
+use Rattle.ends.specs.Positions.{one-branch, operation-at}
 use Rattle.statements.specs.declared.OperationRead.{OperationRead}
 use Rattle.ends.specs.Counts.{beforeCount, before-more, countAt, legal-some}
 

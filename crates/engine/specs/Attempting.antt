@@ -1,40 +1,35 @@
 -- Rule 5: a branch as a whole, guard and body, and a statement with it. Assumes nothing.
 use mathlib.Core.Path.{_≡_, refl, sym, ap, subst, _∙_}
-use Prim.Native.Nat.{ℕ, zero, suc, _+_, _-_, _*_, _≤_, _<_}
+use Prim.Native.Nat.{ℕ, zero, suc, _+_, _-_, _<_}
 use native.Mathlib.Omega.{arith}
 use native.Mathlib.Numerals.{add-one}
-use mathlib.Core.Bool.{Bool, true, false, _&&_}
+use mathlib.Core.Bool.{_&&_}
 use mathlib.Core.Option.{Option, none, some, Option·map}
-use mathlib.Core.List.{List, _++_, map}
-use lib.ListN.{length, take, drop, getD, take-append-drop}
-use lib.Seq.{drop-drop}
+use mathlib.Core.List.{List}
+use lib.ListN.{length, drop, getD}
 use lib.Dec.{T}
 use Rattle.basis.specs.Choice.{maybe}
 use Rattle.basis.specs.Logic.{and-l, and-r}
-use Rattle.basis.specs.Lists.{Found, zeros}
-use Rattle.basis.specs.Sizes.{countWidth, tupleSize, tuplesSize}
+use Rattle.basis.specs.Lists.{Found}
+use Rattle.basis.specs.Sizes.{countWidth}
 use Rattle.basis.specs.ListLaws.{Each}
 use Rattle.model.specs.Statement as Model
 use Rattle.model.specs.Statement.{Branch, operations, Statement}
 use Rattle.model.specs.Reading.{several, operation, branch}
 use Rattle.model.specs.Legal.{Kinds, noKinds, bindKinds, fieldsOf, legalOperation, legalOperations, legalBranch}
 use Rattle.model.specs.Matching.{Tuple, Bindings, unbound}
-use Rattle.model.specs.Execution.{Result, done, failed, perform, andThen, performAll, chosen, Executed, execute, attempt, tuplesAfter}
+use Rattle.model.specs.Execution.{done, failed, perform, andThen, performAll, chosen, Executed, execute, attempt, tuplesAfter}
 use Rattle.model.specs.BoundKinds.{Agree, agree-unbound}
-use Rattle.words.specs.Over.{over}
-use Rattle.words.specs.OverLaws.{over-split}
 use Rattle.statements.specs.declared.OperationRead.{OperationRead}
 use Rattle.statements.specs.Flat.{operationIs, Reads, operationAt}
 use Rattle.tuples.specs.Section as Section
-use Rattle.sections.specs.RowLaws.{rows-rest}
-use Rattle.tuples.specs.Section.{entryBytes, tuplesOf, Holds}
+use Rattle.tuples.specs.Section.{tuplesOf, Holds}
 use Rattle.bindings.specs.declared.Vars.{Vars}
 use Rattle.bindings.specs.Variables.{bindingsOf}
 use Rattle.operations.specs.Performing.{resultIs, Leaves, leaves-failed}
 use Rattle.operations.specs.Codes.{CanPerform}
 use Rattle.engine.specs.Legality.{can-perform, AgreeAfter, perform-agrees}
 use Rattle.engine.specs.Ahead.{operationsAt, Ahead, ahead}
-use Rattle.layout.specs.Stored.{statementOf}
 use Rattle.guards.specs.Branches.{after-guard}
 use Rattle.guards.specs.Searching.{branchAt, branch-is, Chosen, Chooses, nothing, chosen-at}
 
@@ -152,35 +147,3 @@ module _ (b : List ℕ) (st : Statement) (p : List ℕ) (n : ℕ) (s : Section.S
         go : (k : ℕ) → (k ≡ 0 → ⊥) → Attempted (some (record { branch = k; result = resultIs 0 (bindingsOf w) (tuplesOf q m) })) ts k 0 m w q
         go zero z = absurd (z refl)
         go (suc k) z = unfold ranIs resultIs tuplesAfter in record { is = refl; holds = x .section f }
-
--- ---- the copy
-
-drop-zeros : (j m : ℕ) → drop j (zeros m) ≡ zeros (m - j)
-unfolding zeros
-drop-zeros zero m = let z : m ≡ m - 0 = omega arith in ap zeros z
-drop-zeros (suc j) zero = let z : 0 ≡ 0 - suc j = omega arith in ap zeros z
-drop-zeros (suc j) (suc m) = let z : m - j ≡ suc m - suc j = omega arith in drop-zeros j m ∙ ap zeros z
-
--- bytes over the front of others that are alike from there on
-over-alike : (d s : List ℕ) (k : ℕ) → drop k d ≡ drop k s → over d 0 s k ≡ s
-over-alike d s k e =
-    let z : 0 + k ≡ k = omega arith in
-    over-split d 0 s k ∙ ap (λ (i : ℕ). take k s ++ drop i d) z ∙ ap (λ (l : List ℕ). take k s ++ l) e ∙ take-append-drop k s
-
--- past its tuples a section is zero
-section-rest : (p : List ℕ) (n : ℕ) (ts : List Tuple) → Holds p n ts → (k : ℕ) → n * tupleSize ≤ k → drop k p ≡ zeros (tuplesSize - k)
-section-rest p n ts h k l =
-    let j : ℕ = k - n * tupleSize in
-    let sum : n * tupleSize + j ≡ k = omega arith in
-    let less : tuplesSize - n * tupleSize - j ≡ tuplesSize - k = omega arith in
-    ap (λ (i : ℕ). drop i p) (sym sum) ∙ sym (drop-drop j (n * tupleSize) p) ∙ ap (drop j) (rows-rest tuplesSize tupleSize p n (map entryBytes ts) (h .rows)) ∙ drop-zeros j (tuplesSize - n * tupleSize) ∙ ap zeros less
-
--- a section's tuples over zeros
-pub copied-out : (p : List ℕ) (n : ℕ) → Section.Section p n → over (zeros tuplesSize) 0 p (n * tupleSize) ≡ p
-copied-out p n h = over-alike (zeros tuplesSize) p (n * tupleSize) (drop-zeros (n * tupleSize) tuplesSize ∙ sym (section-rest p n (tuplesOf p n) h (n * tupleSize) (omega arith)))
-
--- as many tuples as either section has, over the other's
-pub copied-in : (p q : List ℕ) (n m k : ℕ) → Section.Section p n → Section.Section q m → n ≤ k → m ≤ k → over p 0 q (k * tupleSize) ≡ q
-copied-in p q n m k h g l r =
-    over-alike p q (k * tupleSize)
-    (section-rest p n (tuplesOf p n) h (k * tupleSize) (omega arith) ∙ sym (section-rest q m (tuplesOf q m) g (k * tupleSize) (omega arith)))

@@ -13,13 +13,12 @@ ghost use Rattle.fields.specs.Forms.{allows};
 ghost use Rattle.fields.specs.Stepped.{stepped};
 use statements::Field;
 use statements::OUT;
+use values::NAME;
 use values::legal_value;
 use words::VARIABLES;
 use words::size;
 
-// The kind byte of a name; kinds are below 3.
-const NAME: u8 = 1;
-
+// Kinds are below it.
 const KINDS: u8 = 3;
 
 // Whether something is legal and, if so, the kinds of the variables bound after it: kind and one more, 0 where not bound.

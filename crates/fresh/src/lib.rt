@@ -10,7 +10,7 @@ pub fn fresh(state: &mut [u8]) -> u64
         return 1;
     }
     spans::clear(state, 0, words::STATE);
-    spans::copy_at(state, 0, b"TS");
+    header::set_mark(state);
     header::set_next(state, 1);
     header::set_space_count(state, 1);
     0

@@ -1,26 +1,27 @@
 -- The branches of a body as they stand in its bytes. Assumes nothing.
 use mathlib.Core.Path.{_≡_, refl, sym, ap, subst, _∙_}
-use Prim.Native.Nat.{ℕ, zero, suc, _+_, _-_, _≤_, _<_}
+use Prim.Native.Nat.{ℕ, suc, _+_, _≤_, _<_}
 use native.Mathlib.Omega.{arith}
 use native.Mathlib.Numerals.{add-one}
-use mathlib.Core.Bool.{Bool, true, false, _&&_}
-use mathlib.Core.Option.{Option, none, some, Option·getD, Option·some-injective, Option·none-ne-some}
+use mathlib.Core.Bool.{Bool, true, false}
+use mathlib.Core.Option.{Option, none, some, Option·some-injective, Option·none-ne-some}
 use mathlib.Core.List.{List, [], _∷_}
-use lib.ListN.{length, take, drop, getD, length-drop, drop-of-length-le}
+use lib.ListN.{length, take, drop, getD, length-drop}
 use lib.Seq.{drop-drop, drop-cons}
-use lib.Dec.{T, leb, leb→le}
+use lib.Dec.{T, leb}
 use Rattle.basis.specs.Choice.{maybe, isSome, provided}
 use Rattle.basis.specs.Logic.{and-l, and-r, both}
 use Rattle.basis.specs.Lists.{all, isEmpty}
 use Rattle.basis.specs.Numbers.{number}
 use Rattle.basis.specs.Sizes.{hostWidth, processWidth, countWidth, mostBody, branchCountAt, branchesAt}
 use Rattle.model.specs.Statement as Model
-use Rattle.model.specs.Statement.{always, Branch, operations, Statement}
+use Rattle.model.specs.Statement.{Branch, operations, Statement}
 use Rattle.model.specs.Reading.{Reader, _>>=_, give, byte, natural, several, counted, wholeOf, operation, branch, statement}
-use Rattle.model.specs.ReadBack.{Turns, then-some, parse-some}
+use Rattle.model.specs.ReadBack.{then-some, parse-some}
 use Rattle.model.specs.Legal.{Kinds, noKinds, bindKinds, fieldsOf, legalOperation, legalOperations, isGuard, legalBranch, legalStatement, parse, legalBody}
 use Rattle.layout.specs.Stored.{statementOf}
 use Rattle.statements.specs.declared.OperationRead.{OperationRead}
+use Rattle.statements.specs.BranchAt.{branch-at}
 use Rattle.statements.specs.Flat.{operationIs, Reads, fewFields, operationAt}
 use Rattle.guards.specs.Placed.{is-read, legal-few}
 
@@ -48,32 +49,6 @@ byte-read b at x rest e = go (drop at b) refl e
         let h : getD b at 0 ≡ y = cc in
         let k : drop (suc at) b ≡ l = cc in
         (few, h ∙ ap (λ (z : ℕ × List ℕ). z .0) q, ap (λ (n : ℕ). drop n b) (add-one at) ∙ k ∙ ap (λ (z : ℕ × List ℕ). z .1) q)
-
--- ---- one branch
-
--- a branch stands at a position: its guard, the count of its body and the body
-pub record BranchAt (b : List ℕ) (at : ℕ) (br : Branch) (rest : List ℕ) : Type 0 where
-  pub left : List ℕ
-  pub size : ℕ
-  pub after : List ℕ
-  pub guard : operation (drop at b) ≡ some (br .guard, left)
-  pub count : byte left ≡ some (size, after)
-  pub body : several operation size after ≡ some (br .body, rest)
-
-pub branch-at : (b : List ℕ) (at : ℕ) (br : Branch) (rest : List ℕ) → branch (drop at b) ≡ some (br, rest) → BranchAt b at br rest
-unfolding branch counted
-branch-at b at br rest e =
-    let t = then-some operation (λ g. counted operation >>= λ os. give (record { guard = g; body = os })) (drop at b) (br, rest) e in
-    let u = given-after (counted operation) (λ os. record { guard = t .item; body = os }) (t .left) br rest (t .later) in
-    let c = then-some byte (several operation) (t .left) (u .0, rest) (u .1) in
-    record {
-      left = t .left;
-      size = c .item;
-      after = c .left;
-      guard = t .first ∙ ap (λ (x : Branch). some (x .guard, t .left)) (u .2);
-      count = c .first;
-      body = c .later ∙ ap (λ (x : Branch). some (x .body, rest)) (u .2);
-    }
 
 -- ---- the branches
 
@@ -259,9 +234,9 @@ pub after-guard : (b : List ℕ) (at : ℕ) (br : Branch) (rest : List ℕ) (r :
     → (operationIs (r .operation) ≡ br .guard) × (r .end < length b) × (several operation (getD b (r .end) 0) (drop (r .end + countWidth) b) ≡ some (br .body, rest))
 after-guard b at br rest r e l h =
     let p = branch-at b at br rest e in
-    let n = is-read b at (br .guard) (p .left) r (p .guard) (branch-few br l .1) h in
-    let k = byte-read b (r .end) (p .size) (p .after) (ap byte (n .left) ∙ p .count) in
-    (n .is, k .0, ap (λ (c : ℕ). several operation c (drop (r .end + countWidth) b)) (k .1) ∙ (ap (several operation (p .size)) (k .2) ∙ p .body))
+    let n = is-read b at (br .guard) (drop (p .end) b) r (p .guard) (branch-few br l .1) h in
+    let same : p .end ≡ r .end = omega (arith, p .within, ap length (n .left), length-drop (r .end) b, length-drop (p .end) b) in
+    (n .is, omega (arith, same, p .within), subst (λ (k : ℕ). several operation (getD b k 0) (drop (k + countWidth) b) ≡ some (br .body, rest)) same (ap (λ (c : ℕ). several operation c (drop (p .end + countWidth) b)) (p .count) ∙ p .body))
 
 pub next-branch : (b : List ℕ) (at m : ℕ) → Branches b at (suc m) → (r : OperationRead) → Reads r (operationAt b at) → NextBranch b at m r
 next-branch b at m h r e =

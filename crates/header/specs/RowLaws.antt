@@ -1,13 +1,13 @@
 -- The laws of the parts: a run's bytes are its parts, a part that is written leaves every other, what a row of the header says, and the run whose row or section was written. Assumes nothing.
 use mathlib.Core.Path.{_≡_, refl, sym, ap, _∙_}
-use Prim.Native.Nat.{ℕ, _*_, _%_, _≤_, _<_}
+use Prim.Native.Nat.{ℕ, _*_, _≤_, _<_}
 use native.Mathlib.Omega.{arith}
 use mathlib.Core.Bool.{Bool}
-use mathlib.Core.List.{List, [], _∷_, append-nil}
+use mathlib.Core.List.{List, append-nil}
 use lib.ListN.{length, getD, set}
 use Rattle.basis.specs.Lists.{zeros, pad}
 use Rattle.basis.specs.Numbers.{bigEndian, numberAt, mask, bits}
-use Rattle.basis.specs.NumberLaws.{bigEndian-length}
+use Rattle.basis.specs.NumberLaws.{bigEndian-length, one-byte}
 use Rattle.basis.specs.Sizes.{positionWidth, maskWidth, countWidth, nextWidth, tupleCountWidth, hosts, lastAt, maskAt, monitorsAt, nextAt, spaceCountAt, tupleCountAt, waitingCountAt, headerSize, spaceSize, tupleSize, waitingSize, spacesSize, tuplesSize, waitingAllSize, spacesAt, tuplesAt, waitingAt}
 use Rattle.model.specs.Run.{Run, withLast, withUp, withMonitors}
 use Rattle.model.specs.Fit.{Fit}
@@ -53,11 +53,6 @@ pub section-written : {A : Type 0} (k : Shape A) (b x : List ℕ) (ps : List (Li
     → (n : ℕ) (l : List A) → Holds k x n l → Cut (withRow c n (withPart r b x)) (set (set ps r (area (k .most * k .size) (k .size) (k .write) l)) c (bigEndian (getD widths c 0) (length l)))
 section-written k b x ps p r c below counted whole n l q =
     rw (← holds-area k x n l q, ← holds-count k x n l q) (row-written (withPart r b x) (set ps r x) (part-lent b ps p r below x (holds-length k x n l q ∙ whole)) c counted n)
-
--- a count as a row
-pub one-byte : (n : ℕ) → n < 256 → bigEndian countWidth n ≡ n ∷ []
-unfolding bigEndian
-one-byte n h = let e : n % 256 ≡ n = omega arith in rw e
 
 -- ---- a stored run with one row written
 

@@ -22,6 +22,9 @@ partsOf s =
     ∷ area spacesSize spaceSize spaceBytes (s .spaces) ∷ area tuplesSize tupleSize tupleBytes (s .tuples) ∷ area waitingAllSize waitingSize waitingBytes (s .waiting) ∷ []
 
 -- which part is which
+abbrev pub markPart : ℕ
+markPart = 0
+
 abbrev pub lastPart : ℕ
 lastPart = 1
 
@@ -63,10 +66,24 @@ Cut b ps = Parts widths b ps
 abbrev pub withRow : (r n : ℕ) → List ℕ → List ℕ
 withRow r n b = over b (placeIn widths r) (bigEndian (getD widths r 0) n) (getD widths r 0)
 
+-- the bytes with the mark of a state
+abbrev pub withMark : List ℕ → List ℕ
+withMark b = over b (placeIn widths markPart) stateMark (getD widths markPart 0)
+
 -- section r as it is lent
 abbrev pub partAt : (r : ℕ) → List ℕ → List ℕ
 partAt r b = take (getD widths r 0) (drop (placeIn widths r) b)
 
--- the bytes once it comes back as x
+-- the spaces, the tuples, the waiting statements
+abbrev pub spacesLent : List ℕ → List ℕ
+spacesLent b = partAt spacesPart b
+
+abbrev pub tuplesLent : List ℕ → List ℕ
+tuplesLent b = partAt tuplesPart b
+
+abbrev pub queueLent : List ℕ → List ℕ
+queueLent b = partAt waitingPart b
+
+-- the bytes once section r comes back as x
 abbrev pub withPart : (r : ℕ) → (b x : List ℕ) → List ℕ
 withPart r b x = putMid (placeIn widths r) (getD widths r 0) b x

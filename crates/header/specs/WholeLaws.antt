@@ -4,8 +4,8 @@ use Prim.Native.Nat.{ℕ, zero, suc, _+_, _-_, _*_, _^_, _≤_, _<_}
 use native.Mathlib.Omega.{arith}
 use mathlib.Core.Bool.{Bool, true, false}
 use mathlib.Core.List.{List, [], _∷_, map}
-use lib.ListN.{length, take, drop, getD}
-use lib.Seq.{take-all, take-take, drop-cons}
+use lib.ListN.{length, take, drop, getD, length-drop}
+use lib.Seq.{take-all, take-take, drop-cons, length-take-le}
 use lib.Dec.{T, leb}
 use lib.Pow.{areBytes}
 use borrow.Author.Tests.{le-leb, lt-leb}
@@ -13,7 +13,7 @@ use Rattle.basis.specs.Logic.{and-l, and-r, both, true-is}
 use Rattle.basis.specs.Lists.{zeros, pieces, sameBytes}
 use Rattle.basis.specs.ListLaws.{same-refl, same→eq}
 use Rattle.basis.specs.Numbers.{bigEndian, numberAt, mask, bits}
-use Rattle.basis.specs.NumberLaws.{numberAt-lt}
+use Rattle.basis.specs.NumberLaws.{numberAt-lt, bytes-take, bytes-drop}
 use Rattle.basis.specs.PadLaws.{mask-bits}
 use Rattle.basis.specs.Sizes.{markWidth, positionWidth, maskWidth, countWidth, nextWidth, tupleCountWidth, hosts, mostMonitors, spaceNumbers, mostSpaces, mostTuples, mostWaiting, lastAt, maskAt, monitorsAt, nextAt, spaceCountAt, tupleCountAt, waitingCountAt, headerUsed, headerSize, spaceSize, tupleSize, waitingSize, spacesSize, tuplesSize, waitingAllSize, spacesAt, tuplesAt, waitingAt, stateSize}
 use Rattle.model.specs.Run.{Run}
@@ -25,8 +25,8 @@ use Rattle.words.specs.ZeroLaws.{zerosAt→zeros, zeros→zerosAt}
 use Rattle.sections.specs.Rows.{joined}
 use Rattle.sections.specs.RowLaws.{number-written}
 use Rattle.sections.specs.Shapes.{entries-length}
-use Rattle.sections.specs.Parts.{part-read, cutFrom, total, cut-joined}
-use Rattle.header.specs.Rows.{widths, unusedPart, spacesPart, tuplesPart, waitingPart, partsOf, Cut}
+use Rattle.sections.specs.Parts.{placeIn, part-read, cutFrom, total, cut-joined}
+use Rattle.header.specs.Rows.{widths, unusedPart, spacesPart, tuplesPart, waitingPart, partsOf, Cut, partAt, spacesLent, tuplesLent, queueLent}
 use Rattle.header.specs.RowLaws.{encode-parts}
 use Rattle.header.specs.Whole.{headerLegal}
 
@@ -41,10 +41,39 @@ pieces-cut (suc n) w m l h =
     let d : drop w (take m l) ≡ take (m - w) (drop w l) = ap (λ (k : ℕ). drop w (take k l)) (sym e) ∙ drop-take w (m - w) l in
     rw (f, d, pieces-cut n w (m - w) (drop w l) (omega arith))
 
--- it says what the state says
-pub lent-says : {A : Type 0} (read : List ℕ → A) (n size whole at : ℕ) (b : List ℕ) → n * size ≤ whole → entries read n size 0 (take whole (drop at b)) ≡ entries read n size at b
+lent-says : {A : Type 0} (read : List ℕ → A) (n size whole at : ℕ) (b : List ℕ) → n * size ≤ whole → entries read n size 0 (take whole (drop at b)) ≡ entries read n size at b
 unfolding entries
 lent-says read n size whole at b h = ap (map read) (pieces-cut n size whole (drop at b) h)
+
+module _ (b : List ℕ) where
+  -- it says what the state says
+  pub spaces-said : length ((decode b) .spaces) ≤ mostSpaces → entries spaceRead (length ((decode b) .spaces)) spaceSize 0 (spacesLent b) ≡ (decode b) .spaces
+  unfolding decode
+  spaces-said few =
+      let n : ℕ = byteAt spaceCountAt b in
+      let c : length (entries spaceRead n spaceSize spacesAt b) ≡ n = entries-length spaceRead n spaceSize spacesAt b in
+      ap (λ (m : ℕ). entries spaceRead m spaceSize 0 (spacesLent b)) c ∙ lent-says spaceRead n spaceSize spacesSize spacesAt b (omega arith)
+
+  pub tuples-said : length ((decode b) .tuples) ≤ mostTuples → entries tupleRead (length ((decode b) .tuples)) tupleSize 0 (tuplesLent b) ≡ (decode b) .tuples
+  unfolding decode
+  tuples-said few =
+      let n : ℕ = numberAt tupleCountAt tupleCountWidth b in
+      let c : length (entries tupleRead n tupleSize tuplesAt b) ≡ n = entries-length tupleRead n tupleSize tuplesAt b in
+      ap (λ (m : ℕ). entries tupleRead m tupleSize 0 (tuplesLent b)) c ∙ lent-says tupleRead n tupleSize tuplesSize tuplesAt b (omega arith)
+
+  pub waiting-said : length ((decode b) .waiting) ≤ mostWaiting → entries waitingRead (length ((decode b) .waiting)) waitingSize 0 (queueLent b) ≡ (decode b) .waiting
+  unfolding decode
+  waiting-said few =
+      let n : ℕ = byteAt waitingCountAt b in
+      let c : length (entries waitingRead n waitingSize waitingAt b) ≡ n = entries-length waitingRead n waitingSize waitingAt b in
+      ap (λ (m : ℕ). entries waitingRead m waitingSize 0 (queueLent b)) c ∙ lent-says waitingRead n waitingSize waitingAllSize waitingAt b (omega arith)
+
+  -- its length, and its bytes
+  pub part-long : (r : ℕ) → placeIn widths r + getD widths r 0 ≤ length b → length (partAt r b) ≡ getD widths r 0
+  part-long r h = length-take-le (getD widths r 0) (drop (placeIn widths r) b) (simp length-drop (omega arith))
+
+  pub part-bytes : (r : ℕ) → T (areBytes b) → T (areBytes (partAt r b))
+  part-bytes r t = bytes-take (getD widths r 0) (drop (placeIn widths r) b) (bytes-drop (placeIn widths r) b t)
 
 -- ---- the whole
 

@@ -7,8 +7,16 @@ ghost use Rattle.basis.specs.Numbers.{numberAt, bits};
 ghost use Rattle.basis.specs.Sizes.{positionWidth, maskWidth, countWidth, nextWidth, tupleCountWidth, hosts, mostMonitors, mostSpaces, mostTuples, mostWaiting, lastAt, maskAt, monitorsAt, nextAt, spaceCountAt, tupleCountAt, waitingCountAt, headerSize};
 ghost use Rattle.model.specs.Valid.{countsFit};
 ghost use Rattle.layout.specs.States.{decode};
-ghost use Rattle.header.specs.Rows.{lastPart, maskPart, monitorsPart, nextPart, spaceCountPart, tupleCountPart, waitingCountPart, withRow};
+ghost use Rattle.header.specs.Rows.{lastPart, maskPart, monitorsPart, nextPart, spaceCountPart, tupleCountPart, waitingCountPart, withMark, withRow};
 ghost use Rattle.header.specs.Whole.{headerLegal};
+
+// `TS`.
+pub fn set_mark(state: &mut [u8])
+    requires { ⌜ headerSize ≤ length (now state) ⌝ }
+    ensures { λ _. ⌜ now (state .exit) ≡ withMark (now (state .entry)) ⌝ }
+{
+    spans::copy_at(state, 0, b"TS");
+}
 
 // "last position taken (4)".
 pub fn last(state: &[u8]) -> u32

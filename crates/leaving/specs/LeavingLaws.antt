@@ -2,7 +2,7 @@
 use mathlib.Core.Path.{_≡_, refl, sym, ap, subst, _∙_}
 use Prim.Native.Nat.{ℕ, _*_, _≤_, _<_}
 use native.Mathlib.Omega.{arith}
-use mathlib.Core.List.{List, List·Memᴰ}
+use mathlib.Core.List.{List}
 use lib.ListN.{length, take, drop, getD, length-drop}
 use lib.Seq.{length-take-le, take-at}
 use lib.Dec.{T}
@@ -19,8 +19,9 @@ use Rattle.words.specs.OverLaws.{over-take, over-front}
 use Rattle.sections.specs.Shapes.{getD-member}
 use Rattle.queue.specs.Queue.{IsQueued}
 use Rattle.queue.specs.PlaceLaws.{noWaiting, waitingNth, rowEnd, bodyPlace, bodySize, bodyOf, Stands, stands}
-use Rattle.lent.specs.Sections.{queueLent, queue-read, is-queued}
-use Rattle.lent.specs.Bodies.{row-within, bytes-legal, bytes-statement}
+use Rattle.header.specs.Rows.{queueLent}
+use Rattle.lent.specs.Sections.{queue-read, is-queued}
+use Rattle.queue.specs.Bodies.{row-within, bytes-legal, bytes-statement}
 use Rattle.leaving.specs.Leaving.{place, without, Gone}
 
 -- ---- a body copied

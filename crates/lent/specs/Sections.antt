@@ -8,17 +8,10 @@ use Rattle.model.specs.Run.{Run}
 use Rattle.layout.specs.States.{decode}
 use Rattle.layout.specs.Stored.{IsStored}
 use Rattle.sections.specs.Shapes.{holds, holds-read}
-use Rattle.header.specs.Rows.{partsOf, spacesPart, waitingPart, partAt}
+use Rattle.header.specs.Rows.{partsOf, spacesPart, waitingPart, spacesLent, queueLent}
 use Rattle.header.specs.StoredLaws.{part-holds}
 use Rattle.spaces.specs.Spaces.{spaceShape, spacesOf, Listed, IsListed, Rising}
 use Rattle.queue.specs.Queue.{waitingShape, waitingOf, Queued, IsQueued}
-
--- the sections as they are lent
-abbrev pub spacesLent : List ℕ → List ℕ
-spacesLent b = partAt spacesPart b
-
-abbrev pub queueLent : List ℕ → List ℕ
-queueLent b = partAt waitingPart b
 
 -- ---- the spaces
 

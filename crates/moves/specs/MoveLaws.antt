@@ -4,34 +4,33 @@ use Prim.Native.Nat.{ℕ, _+_, _-_, _*_, _≤_, _<_}
 use native.Mathlib.Omega.{arith}
 use native.Mathlib.Nat.{add-zero}
 use mathlib.Core.Bool.{Bool, true, false, not}
-use mathlib.Core.List.{List, [], _∷_, _++_, map, map-append, flatMap, append-assoc, append-nil}
-use lib.ListN.{length, take, drop, getD, length-append, length-drop, length-map}
-use lib.Seq.{take-all, take-paste, drop-at, length-take-le}
+use mathlib.Core.List.{List, [], _∷_, _++_, map-append}
+use lib.ListN.{length, take, drop, getD, length-drop, length-map}
+use lib.Seq.{take-all, length-take-le}
 use lib.Dec.{eqb}
 use borrow.Author.Tests.{eq-eqb, ne-eqb}
-use Rattle.basis.specs.Lists.{keep, zeros, pad, pieces}
-use Rattle.basis.specs.ListLaws.{Each, each-append, each-map, keep-in, keep-length}
+use Rattle.basis.specs.Lists.{keep, pieces}
+use Rattle.basis.specs.ListLaws.{Each, each-map, keep-in, keep-length}
 use Rattle.basis.specs.Numbers.{bigEndian}
 use Rattle.basis.specs.NumberLaws.{bigEndian-length}
-use Rattle.basis.specs.PadLaws.{zeros-length, pad-length, take-past}
 use Rattle.basis.specs.Sizes.{spaceWidth, spaceNumbers, mostTuples, tupleSize, tuplesSize}
-use Rattle.model.specs.Writing.{valueBytes}
 use Rattle.model.specs.Matching.{Tuple}
 use Rattle.model.specs.Execution.{inSpace, moved}
 use Rattle.model.specs.Valid.{legalTuple}
-use Rattle.layout.specs.States.{tupleBytes, tupleRead}
+use Rattle.layout.specs.States.{tupleRead}
 use Rattle.words.specs.Over.{over}
-use Rattle.words.specs.OverLaws.{over-split, over-mid, over-left, over-right, over-front, over-length, take-over-past}
-use Rattle.sections.specs.Rows.{joined, Wides, Rows}
-use Rattle.sections.specs.RowLaws.{zeros-add, joined-append, joined-length, pieces-at}
+use Rattle.words.specs.OverLaws.{over-split, over-left, over-right, over-length, take-over-past}
+use Rattle.sections.specs.Rows.{Rows}
+use Rattle.sections.specs.RowLaws.{pieces-at}
 use Rattle.sections.specs.Loops.{keep-yes, keep-no, Sifted}
 use Rattle.sections.specs.Shapes.{items-length, holds-length, holds-count, holds-keep}
+use Rattle.sections.specs.Fronts.{Front, front-none, front-more, holds-added}
 use Rattle.tuples.specs.Section.{Legal, tupleShape, entryBytes, entryAt, tupleAt, tuplesOf, Holds, Section}
-use Rattle.tuples.specs.SectionLaws.{read-take, entry-is}
+use Rattle.tuples.specs.SectionLaws.{read-take, entry-is, space-set}
 use Rattle.matching.specs.declared.Template.{Template}
 use Rattle.moves.specs.declared.Copied.the-variants.{Now, Full}
 use Rattle.matching.specs.Hits.{hits, selectsBy}
-use Rattle.moves.specs.Moves.{others, relocated, Front, Copies}
+use Rattle.moves.specs.Moves.{others, relocated, Copies}
 
 -- ---- which tuples are selected
 
@@ -65,22 +64,6 @@ others-kept t p q n m s r =
 
 -- ---- the selected ones, held beside the section
 
-front-none : (b : List ℕ) (ts : List Tuple) → ts ≡ [] → Front b 0 ts
-unfolding joined
-front-none b ts e = rw e (record { bytes = refl; count = refl })
-
--- a row more
-front-more : (b c s : List ℕ) (m : ℕ) (ts : List Tuple) (t : Tuple) → Front b m ts → (m + 1) * tupleSize ≤ length b → tupleSize ≤ length s → take tupleSize s ≡ entryBytes t
-    → c ≡ over b (m * tupleSize) s tupleSize → Front c (m + 1) (ts ++ (t ∷ []))
-unfolding joined over
-front-more b c s m ts t f h k e stored =
-    let w : (m + 1) * tupleSize ≡ m * tupleSize + tupleSize = omega arith in
-    let upto : take (m * tupleSize + tupleSize) (over b (m * tupleSize) s tupleSize) ≡ take (m * tupleSize) b ++ take tupleSize s = take-paste b (m * tupleSize) s tupleSize (omega arith) k in
-    record {
-      bytes = rw (stored, w, upto, f .bytes, e, map-append entryBytes ts (t ∷ []), joined-append (map entryBytes ts) (entryBytes t ∷ []), append-nil (entryBytes t));
-      count = omega (arith, f .count, length-append ts (t ∷ []));
-    }
-
 -- a store, and one at the beginning of what it stored
 pub over-inner : (d e f : List ℕ) (at : ℕ) (s : List ℕ) (n : ℕ) (t : List ℕ) (m : ℕ) → at + n ≤ length d → n ≤ length s → m ≤ n → m ≤ length t → e ≡ over d at s n → f ≡ over e at t m → f ≡ over d at (over s 0 t m) n
 over-inner d e f at s n t m room enough small all one two =
@@ -95,37 +78,16 @@ over-inner d e f at s n t m room enough small all one two =
     two ∙ ap (λ (l : List ℕ). over l at t m) (one ∙ over-split d at s n) ∙ ap (λ (k : ℕ). over (a ++ (b ++ c)) k t m) (sym (add-zero at)) ∙ past
     ∙ ap (λ (l : List ℕ). a ++ l) front ∙ sym (over-split d at (over s 0 t m) n ∙ ap (λ (l : List ℕ). a ++ (l ++ c)) same)
 
--- what stands in an entry after its space
-rest-of : Tuple → List ℕ
-rest-of t = take (tupleSize - spaceWidth) ((length (t .values) ∷ flatMap valueBytes (t .values)) ++ zeros tupleSize)
+pub gather-none : (t : Template) (to : ℕ) (p b : List ℕ) (n : ℕ) → Front tupleShape b 0 (relocated t to (take 0 (tuplesOf p n)))
+gather-none t to p b n = front-none tupleShape b (relocated t to []) (unfold relocated keep in refl)
 
-entry-parts : (t : Tuple) → entryBytes t ≡ bigEndian spaceWidth (t .space) ++ rest-of t
-unfolding pad tupleBytes rest-of
-entry-parts t =
-    let s : List ℕ = bigEndian spaceWidth (t .space) in
-    let r : List ℕ = length (t .values) ∷ flatMap valueBytes (t .values) in
-    let l : length s ≡ spaceWidth = bigEndian-length spaceWidth (t .space) in
-    ap (take tupleSize) (append-assoc s r (zeros tupleSize)) ∙ take-past tupleSize s (r ++ zeros tupleSize) (omega arith) ∙ ap (λ (k : ℕ). s ++ take (tupleSize - k) (r ++ zeros tupleSize)) l
-
--- a tuple's entry in another space: the number alone differs
-space-set : (t : Tuple) (to : ℕ) → over (entryBytes t) 0 (bigEndian spaceWidth to) spaceWidth ≡ entryBytes (inSpace to t)
-unfolding inSpace rest-of
-space-set t to =
-    let s : List ℕ = bigEndian spaceWidth to in
-    over-front (entryBytes t) s spaceWidth (bigEndian-length spaceWidth to)
-    ∙ ap (λ (l : List ℕ). s ++ drop spaceWidth l) (entry-parts t) ∙ ap (λ (l : List ℕ). s ++ l) (drop-at (bigEndian spaceWidth (t .space)) (rest-of t) spaceWidth (bigEndian-length spaceWidth (t .space)))
-    ∙ sym (entry-parts (inSpace to t))
-
-pub gather-none : (t : Template) (to : ℕ) (p b : List ℕ) (n : ℕ) → Front b 0 (relocated t to (take 0 (tuplesOf p n)))
-gather-none t to p b n = front-none b (relocated t to []) (unfold relocated keep in refl)
-
-module _ (t : Template) (to : ℕ) (p b : List ℕ) (n h i : ℕ) (s : Section p n) (k : i < n) (f : Front b h (relocated t to (take i (tuplesOf p n)))) where
-  pub gather-no : selectsBy t (tupleAt p i) ≡ false → Front b h (relocated t to (take (i + 1) (tuplesOf p n)))
+module _ (t : Template) (to : ℕ) (p b : List ℕ) (n h i : ℕ) (s : Section p n) (k : i < n) (f : Front tupleShape b h (relocated t to (take i (tuplesOf p n)))) where
+  pub gather-no : selectsBy t (tupleAt p i) ≡ false → Front tupleShape b h (relocated t to (take (i + 1) (tuplesOf p n)))
   unfolding relocated
   gather-no e = rw (read-take p n i k, keep-no (selectsBy t) (take i (tuplesOf p n)) (tupleAt p i) e) f
 
   pub gather-yes : (c : List ℕ) → (h + 1) * tupleSize ≤ length b → selectsBy t (tupleAt p i) ≡ true
-      → c ≡ over b (h * tupleSize) (over (drop (i * tupleSize) p) 0 (bigEndian spaceWidth to) spaceWidth) tupleSize → Front c (h + 1) (relocated t to (take (i + 1) (tuplesOf p n)))
+      → c ≡ over b (h * tupleSize) (over (drop (i * tupleSize) p) 0 (bigEndian spaceWidth to) spaceWidth) tupleSize → Front tupleShape c (h + 1) (relocated t to (take (i + 1) (tuplesOf p n)))
   unfolding relocated
   gather-yes c room e stored =
       let ts : List Tuple = take i (tuplesOf p n) in
@@ -140,12 +102,12 @@ module _ (t : Template) (to : ℕ) (p b : List ℕ) (n h i : ℕ) (s : Section p
       let new : take tupleSize (over d 0 x spaceWidth) ≡ entryBytes (inSpace to (tupleAt p i)) =
       take-over-past d 0 x spaceWidth (omega arith) (omega arith) tupleSize (omega arith) long ∙ ap (λ (r : List ℕ). over r 0 x spaceWidth) is ∙ space-set (tupleAt p i) to in
       rw (read-take p n i k, keep-yes (selectsBy t) ts (tupleAt p i) e, map-append (inSpace to) (keep (selectsBy t) ts) (tupleAt p i ∷ []))
-      (front-more b c (over d 0 x spaceWidth) h (relocated t to ts) (inSpace to (tupleAt p i)) f room (omega arith) new stored)
+      (front-more tupleShape b c (over d 0 x spaceWidth) h (relocated t to ts) (inSpace to (tupleAt p i)) f room (omega arith) new stored)
 
-pub gather-all : (t : Template) (to : ℕ) (p b : List ℕ) (n h i : ℕ) → n ≤ i → Front b h (relocated t to (take i (tuplesOf p n))) → Front b h (relocated t to (tuplesOf p n))
+pub gather-all : (t : Template) (to : ℕ) (p b : List ℕ) (n h i : ℕ) → n ≤ i → Front tupleShape b h (relocated t to (take i (tuplesOf p n))) → Front tupleShape b h (relocated t to (tuplesOf p n))
 gather-all t to p b n h i past f =
     let all : take i (tuplesOf p n) ≡ tuplesOf p n = let l = items-length tupleShape p n in take-all i (tuplesOf p n) (omega arith) in
-    subst (λ (ts : List Tuple). Front b h (relocated t to ts)) all f
+    subst (λ (ts : List Tuple). Front tupleShape b h (relocated t to ts)) all f
 
 -- ---- put together
 
@@ -158,47 +120,22 @@ relocated-length : (t : Template) (to : ℕ) (ts : List Tuple) → length (other
 unfolding others relocated
 relocated-length t to ts = rw (length-map (keep (selectsBy t) ts) (inSpace to)) (keep-length (selectsBy t) ts)
 
-pub moved-count : (t : Template) (to : ℕ) (p a b : List ℕ) (n m h : ℕ) → Holds a m (others t (tuplesOf p n)) → Front b h (relocated t to (tuplesOf p n)) → m + h ≡ n
+pub moved-count : (t : Template) (to : ℕ) (p a b : List ℕ) (n m h : ℕ) → Holds a m (others t (tuplesOf p n)) → Front tupleShape b h (relocated t to (tuplesOf p n)) → m + h ≡ n
 moved-count t to p a b n m h o f = omega (arith, holds-count tupleShape a m (others t (tuplesOf p n)) o, f .count, relocated-length t to (tuplesOf p n), items-length tupleShape p n)
 
-entries-wide : (ts : List Tuple) → Wides tupleSize (map entryBytes ts)
-entries-wide ts = each-map (λ (r : List ℕ). length r ≡ tupleSize) entryBytes ts (λ t m. pad-length tupleSize (tupleBytes t))
-
--- held rows after a section's
-added : (p q b : List ℕ) (n h : ℕ) (ts new : List Tuple) → Holds p n ts → n + h ≤ mostTuples → Each Legal new → Front b h new → q ≡ over p (n * tupleSize) b (h * tupleSize) → Holds q (n + h) (ts ++ new)
-added p q b n h ts new o few legal f stored =
-    let rows : List (List ℕ) = map entryBytes ts in
-    let more : List (List ℕ) = map entryBytes new in
-    let k : ℕ = h * tupleSize in
-    let m : ℕ = tuplesSize - (n + h) * tupleSize in
-    let c : n ≡ length ts = holds-count tupleShape p n ts o in
-    let l : length (joined rows) ≡ n * tupleSize = joined-length tupleSize rows (entries-wide ts) ∙ ap (λ (j : ℕ). j * tupleSize) (length-map ts entryBytes ∙ sym c) in
-    let gap : tuplesSize - n * tupleSize ≡ k + m = omega arith in
-    let old : p ≡ joined rows ++ (zeros k ++ zeros m) = o .rows .bytes ∙ rw (gap, zeros-add k m) in
-    record {
-      rows = record {
-        bytes = stored ∙ rw (old, over-mid (joined rows) (zeros k) (zeros m) b (n * tupleSize) k l (zeros-length k), f .bytes, map-append entryBytes ts new, joined-append rows more) (sym (append-assoc (joined rows) (joined more) (zeros m)));
-        count = omega (arith, f .count, length-map (ts ++ new) entryBytes, length-append ts new);
-        room = omega arith;
-        wide = entries-wide (ts ++ new);
-      };
-      few = few;
-      lawful = each-append Legal ts new (o .lawful) legal;
-    }
-
 -- move
-pub moved-is : (t : Template) (to : ℕ) (p a q b : List ℕ) (n m h : ℕ) → Section p n → to < spaceNumbers → Holds a m (others t (tuplesOf p n)) → Front b h (relocated t to (tuplesOf p n))
+pub moved-is : (t : Template) (to : ℕ) (p a q b : List ℕ) (n m h : ℕ) → Section p n → to < spaceNumbers → Holds a m (others t (tuplesOf p n)) → Front tupleShape b h (relocated t to (tuplesOf p n))
     → q ≡ over a (m * tupleSize) b (h * tupleSize) → Holds q n (moved (selectsBy t) to (tuplesOf p n))
 unfolding moved others relocated
 moved-is t to p a q b n m h s small o f stored =
     let e : m + h ≡ n = moved-count t to p a b n m h o f in
-    rw e at (added a q b m h (others t (tuplesOf p n)) (relocated t to (tuplesOf p n)) o (omega (arith, s .few)) (relocated-legal t to (tuplesOf p n) small (s .lawful)) f stored)
+    rw e at (holds-added tupleShape a q b m h (others t (tuplesOf p n)) (relocated t to (tuplesOf p n)) o (omega (arith, s .few)) (relocated-legal t to (tuplesOf p n) small (s .lawful)) f stored)
 
 -- copy
-module _ (t : Template) (to : ℕ) (p b : List ℕ) (n h : ℕ) (s : Section p n) (small : to < spaceNumbers) (f : Front b h (relocated t to (tuplesOf p n))) where
+module _ (t : Template) (to : ℕ) (p b : List ℕ) (n h : ℕ) (s : Section p n) (small : to < spaceNumbers) (f : Front tupleShape b h (relocated t to (tuplesOf p n))) where
   pub copied-full : mostTuples - n < h → Copies Full p p n (relocated t to (tuplesOf p n))
   copied-full k = (omega (arith, f .count, s .few), refl)
 
   pub copied-now : (q : List ℕ) → h ≤ mostTuples - n → q ≡ over p (n * tupleSize) b (h * tupleSize) → Copies (Now (n + h)) p q n (relocated t to (tuplesOf p n))
   copied-now q k stored =
-      (omega (arith, f .count), added p q b n h (tuplesOf p n) (relocated t to (tuplesOf p n)) s (omega (arith, s .few)) (relocated-legal t to (tuplesOf p n) small (s .lawful)) f stored)
+      (omega (arith, f .count), holds-added tupleShape p q b n h (tuplesOf p n) (relocated t to (tuplesOf p n)) s (omega (arith, s .few)) (relocated-legal t to (tuplesOf p n) small (s .lawful)) f stored)

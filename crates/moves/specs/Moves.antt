@@ -1,15 +1,14 @@
 -- Move and copy: the tuples that a template selects, and the others. Assumes nothing.
 use mathlib.Core.Path.{_≡_}
-use Prim.Native.Nat.{ℕ, _+_, _*_, _<_}
+use Prim.Native.Nat.{ℕ, _+_, _<_}
 use mathlib.Core.Bool.{not}
 use mathlib.Core.List.{List, _++_, map}
-use lib.ListN.{length, take}
+use lib.ListN.{length}
 use Rattle.basis.specs.Lists.{keep}
-use Rattle.basis.specs.Sizes.{mostTuples, tupleSize}
+use Rattle.basis.specs.Sizes.{mostTuples}
 use Rattle.model.specs.Matching.{Tuple}
 use Rattle.model.specs.Execution.{inSpace}
-use Rattle.sections.specs.Rows.{joined}
-use Rattle.tuples.specs.Section.{entryBytes, tuplesOf, Holds}
+use Rattle.tuples.specs.Section.{tuplesOf, Holds}
 use Rattle.matching.specs.declared.Template.{Template}
 use Rattle.moves.specs.declared.Copied.{Copied}
 use Rattle.moves.specs.declared.Copied.the-variants.{Now, Full}
@@ -22,11 +21,6 @@ others t ts = keep (λ u. not (selectsBy t u)) ts
 -- those that it selects, in another space
 unfoldable pub relocated : Template → (to : ℕ) → List Tuple → List Tuple
 relocated t to ts = map (inSpace to) (keep (selectsBy t) ts)
-
--- the first n rows of some bytes are these tuples
-pub record Front (b : List ℕ) (n : ℕ) (ts : List Tuple) : Type 0 where
-  pub bytes : take (n * tupleSize) b ≡ joined (map entryBytes ts)
-  pub count : n ≡ length ts
 
 -- what an answer of copy says of the section p of n tuples, which q is after it, and of the copies: they are appended, and the count is
 -- the new one; or they "would pass 512", and nothing changed

@@ -72,7 +72,7 @@ head-of b st w = one (which processAt (length b)) (whole-some statement b st w)
 
     one : (processAt ≤ length b) ⊎ (length b < processAt) → statement b ≡ some (st, []) → Head b st
     one (inl m) e = three m (which branchCountAt (length b)) e
-    one (inr m) e = absurd (Option·none-ne-some (st, []) (rw (fixed-natural hostWidth (omega arith) .short b 0 (omega arith)) at e))
+    one (inr m) e = absurd (Option·none-ne-some (st, []) (rw (fixed-natural hostWidth (omega arith) .short b hostAt (omega arith)) at e))
 
 -- ---- a legal body
 
@@ -87,7 +87,7 @@ module _ (b : List ℕ) (t : T (legalBody b)) where
   body-head = head-of b (statementOf b) (parse-some b (statementOf b) (legal-parse b t) .whole)
 
   pub body-host : getD b hostAt 0 ≡ (statementOf b) .host
-  body-host = sym (numberAt-1 0 b (omega (arith, body-head .long))) ∙ body-head .host
+  body-host = sym (numberAt-1 hostAt b (omega (arith, body-head .long))) ∙ body-head .host
 
   pub body-host-small : getD b hostAt 0 < hosts
   body-host-small = omega (arith, body-host, host-small (statementOf b) (parse-some b (statementOf b) (legal-parse b t) .legal))

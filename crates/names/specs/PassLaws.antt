@@ -7,11 +7,10 @@ use mathlib.Core.Option.{Option}
 use mathlib.Core.List.{List, [], _∷_}
 use lib.ListN.{length, take, getD}
 use lib.Dec.{T, ltb}
-use lib.Pow.{areBytes}
 use borrow.Author.Tests.{eq-eqb, ne-eqb, lt-ltb, le-ltb, ltb-true, ltb-false}
 use Rattle.basis.specs.Choice.{maybe}
 use Rattle.basis.specs.Lists.{any}
-use Rattle.basis.specs.NumberLaws.{bytes-cons}
+use Rattle.basis.specs.NumberLaws.{bytes-of}
 use Rattle.basis.specs.Sizes.{countWidth, branchCountAt, branchesAt}
 use Rattle.model.specs.Statement as model
 use Rattle.model.specs.Statement.{spacesOf, spacesNamed}
@@ -140,10 +139,6 @@ unfolding passBranch
 branch-on f b at end e z = rw (← e, ne-eqb end 0 z)
 
 -- ---- a body
-
-pub bytes-of : (l : List ℕ) → ((k : ℕ) → getD l k 0 < 256) → T (areBytes l)
-bytes-of [] h = tt
-bytes-of (a ∷ l) h = bytes-cons a l (h 0) (bytes-of l (λ k. h (suc k)))
 
 pub legal-long : (b : List ℕ) → T (legalBody b) → branchesAt ≤ length b
 legal-long b t = body-head b t .long

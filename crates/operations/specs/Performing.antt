@@ -1,18 +1,18 @@
 -- One operation of a body on the section of tuples: what it leaves there, and what the code does by its parts. Assumes nothing.
 use mathlib.Core.Path.{_≡_, refl, sym, ap, subst, _∙_}
-use Prim.Native.Nat.{ℕ, zero, suc, _+_, _-_, _*_, _≤_, _<_}
+use Prim.Native.Nat.{ℕ, zero, suc, _+_, _-_, _≤_, _<_}
 use native.Mathlib.Omega.{arith}
-use mathlib.Core.Bool.{Bool, true, false, _&&_, cond}
+use mathlib.Core.Bool.{Bool, true, false, cond}
 use mathlib.Core.Option.{Option, none, some, Option·map, Option·some-injective, Option·none-ne-some}
 use mathlib.Core.List.{List, [], _∷_, _++_, map}
 use lib.ListN.{length}
-use lib.Dec.{T, leb, eqb, eqb→eq}
+use lib.Dec.{T, leb, eqb→eq}
 use borrow.Author.Tests.{le-leb, lt-leb}
 use Rattle.basis.specs.Choice.{maybe, provided}
 use Rattle.basis.specs.Logic.{and-l, and-r}
 use Rattle.basis.specs.Lists.{Found, first, removeAt, keep}
 use Rattle.basis.specs.ListLaws.{Each, First, first-some, first-below}
-use Rattle.basis.specs.Sizes.{spaceNumbers, mostFields, mostTuples, tupleSize, tuplesSize}
+use Rattle.basis.specs.Sizes.{spaceNumbers, mostTuples}
 use Rattle.model.specs.Value.{Value}
 use Rattle.model.specs.Statement as Model
 use Rattle.model.specs.Statement.{deposit, transfer}

@@ -1,6 +1,6 @@
 -- The bytes of a value, of a field and of fields, put part by part. Assumes nothing.
 use mathlib.Core.Path.{_≡_, refl, sym, ap, _∙_}
-use mathlib.Core.List.{List, [], _∷_, _++_, map-append, flatMap, append-assoc, append-nil}
+use mathlib.Core.List.{List, [], _∷_, _++_, map-append, flatMap, append-nil}
 use Prim.Native.Nat.{ℕ, zero, suc, _+_, _*_, _^_, _≤_, _<_}
 use native.Mathlib.Numerals.{add-one}
 use native.Mathlib.Omega.{arith}
@@ -9,6 +9,7 @@ use lib.Seq.{take-suc}
 use Rattle.basis.specs.ListLaws.{Each, each-nil, each-cons, each-append}
 use Rattle.basis.specs.Numbers.{bigEndian}
 use Rattle.basis.specs.NumberLaws.{bigEndian-length}
+use Rattle.basis.specs.PadLaws.{flatMap-append}
 use Rattle.basis.specs.Sizes.{bitsWidth, valueSize, mostFields, formWidth, valueBitsAt, pastKind, pastVariable, formalSize, referenceSize, sumSize, anonymousSize, fieldsSize}
 use Rattle.words.specs.Over.{over}
 use Rattle.model.specs.Value.{value}
@@ -21,11 +22,6 @@ use Rattle.statements.specs.Flat.{forms, fieldOf, fieldIs, fieldsAre}
 use Rattle.parts.specs.Puts.{Puts, puts-none, puts-byte, puts-over, puts-then, puts-as, puts-two, puts-three}
 
 -- ---- things one after the other
-
-pub flatMap-append : {A : Type 0} (write : A → List ℕ) (l k : List A) → flatMap write (l ++ k) ≡ flatMap write l ++ flatMap write k
-unfolding flatMap
-flatMap-append write [] k = refl
-flatMap-append write (a ∷ l) k = ap (λ (s : List ℕ). write a ++ s) (flatMap-append write l k) ∙ sym (append-assoc (write a) (flatMap write l) (flatMap write k))
 
 pub flatMap-one : {A : Type 0} (write : A → List ℕ) (a : A) → flatMap write (a ∷ []) ≡ write a
 unfolding flatMap

@@ -1,7 +1,7 @@
 -- The bytes of an operation, put part by part. Assumes nothing.
 use mathlib.Core.Path.{_≡_, refl, sym, _∙_}
 use mathlib.Core.List.{List, [], _∷_, _++_, flatMap, append-assoc}
-use Prim.Native.Nat.{ℕ, zero, suc, _+_, _%_, _≤_, _<_}
+use Prim.Native.Nat.{ℕ, zero, suc, _+_, _≤_, _<_}
 use native.Mathlib.Omega.{arith}
 use lib.ListN.{length, take, set, length-append, length-map}
 use lib.Seq.{length-take-le}
@@ -9,7 +9,7 @@ use Rattle.basis.specs.Lists.{all}
 use Rattle.basis.specs.ListLaws.{Each, each-nil, all-at}
 use Rattle.basis.specs.Numbers.{bigEndian}
 use Rattle.basis.specs.NumberLaws.{bigEndian-length}
-use Rattle.basis.specs.Sizes.{hostWidth, spaceWidth, mostFields, codeWidth, countWidth, fromAt, toAt, pastTo, fieldsSize, operationSize}
+use Rattle.basis.specs.Sizes.{spaceWidth, mostFields, codeWidth, countWidth, fromAt, toAt, pastTo, fieldsSize, operationSize}
 use Rattle.words.specs.Over.{over}
 use Rattle.model.specs.Statement as model
 use Rattle.model.specs.Statement.{spacesOf}
@@ -63,11 +63,6 @@ bytes-two (suc (suc (suc (suc (suc zero))))) from to fs l h = absurd (omega arit
 bytes-two (suc (suc (suc (suc (suc (suc zero)))))) from to fs l h = refl
 bytes-two (suc (suc (suc (suc (suc (suc (suc zero))))))) from to fs l h = refl
 bytes-two (suc (suc (suc (suc (suc (suc (suc (suc n)))))))) from to fs l h = absurd (omega arith)
-
--- a host is its byte
-pub one-byte : (n : ℕ) → n < 256 → bigEndian hostWidth n ≡ n ∷ []
-unfolding bigEndian
-one-byte n h = let e : n % 256 ≡ n = omega arith in rw e
 
 -- an operation is put, and has room
 pub record PutOperation (o : Operation) (before : List ℕ) (at : ℕ) (after : List ℕ) (end : ℕ) : Type 0 where

@@ -1,5 +1,6 @@
 pub mod Queue
 pub mod QueueLaws
 pub mod PlaceLaws
+pub mod Bodies
 pub mod Legal
 pub mod LegalLaws

@@ -9,6 +9,7 @@ ghost use Rattle.basis.specs.Numbers.{numberAt};
 ghost use Rattle.basis.specs.Sizes.{positionWidth, lengthWidth, hosts, mostBody, mostWaiting, waitingSize};
 ghost use Rattle.model.specs.Legal.{legalBody};
 ghost use Rattle.layout.specs.Stored.{statementOf};
+ghost use Rattle.words.specs.Over.{zerosAt};
 ghost use Rattle.queue.specs.Queue.{waitingOf, Queued, IsQueued, ofOther, ofProcess, waits};
 ghost use Rattle.queue.specs.QueueLaws.{rowBytes};
 ghost use Rattle.queue.specs.PlaceLaws.{waitingNth, rowEnd, bodyPlace, bodySize};
@@ -145,6 +146,14 @@ pub fn body_fits(waiting: &[u8], n: usize, i: usize) -> bool
         return false;
     }
     spans::zero_run(waiting, body_at(i) + len, words::MOST_BODY - len)
+}
+
+// "All unused bytes are zero": those past n rows.
+pub fn unused_zero(waiting: &[u8], n: usize) -> bool
+    requires { ⌜ n * waitingSize ≤ length (now waiting) ⌝ }
+    ensures { λ r. ⌜ r ≡ zerosAt (now (waiting .entry)) (n * waitingSize) (length (now (waiting .entry)) - n * waitingSize) ⌝ }
+{
+    scans::unused_zero(waiting, ROW, n)
 }
 
 // "waiting by position", "waiting positions are 1 to the last".

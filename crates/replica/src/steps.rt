@@ -111,7 +111,7 @@ fn ask(mark: u8, state: &mut [u8], body: &[u8], out: &mut [u8]) -> usize
 }
 
 // "A step sets the last number and tries the checks from 6 on".
-pub fn step(state: &mut [u8], input: &[u8], out: &mut [u8]) -> usize
+fn step(state: &mut [u8], input: &[u8], out: &mut [u8]) -> usize
     requires { ⌜ IsStored (now state) × (numberOf (now input) ≡ some (suc ((decode (now state)) .last))) × (replySize ≤ length (now out)) ⌝ }
     ensures { λ r. ⌜ Turned (stepBytes (decode (now (state .entry))) (now (input .entry))) (now (out .entry)) (now (state .exit)) (now (out .exit)) r ⌝ }
 {

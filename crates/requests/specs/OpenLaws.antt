@@ -20,7 +20,7 @@ use Rattle.requests.specs.BodyLaws.{host-read, process-read}
 
 -- host, process, and a last part read by p
 module _ {A : Type 0} (p : List ℕ → Option (A × List ℕ)) (made : ℕ → ℕ → A → Request) where
-  -- what is read of five bytes and more, and of fewer
+  -- what is read of a body
   abbrev reads : List ℕ → Option Request
   reads body = maybe {A = Request × List ℕ} (maybe (host body) none (λ r. maybe (natural processWidth (r .1)) none (λ q. maybe (p (q .1)) none (λ k. some (made (r .0) (q .0) (k .0), k .1))))) none (λ r. cond (isEmpty (r .1)) (some (r .0)) none)
 

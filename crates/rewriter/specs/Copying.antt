@@ -20,9 +20,10 @@ use Rattle.model.specs.Writing.{statementBytes}
 use Rattle.model.specs.ReadBack.{BodyOf, several-length, parse-parts}
 use Rattle.statements.specs.declared.OperationRead.{OperationRead}
 use Rattle.statements.specs.At.{found}
+use Rattle.statements.specs.BranchAt.{branch-at}
 use Rattle.statements.specs.Flat.{operationIs, readIs, Reads, fewFields, operationAt}
 use Rattle.ends.specs.BodyParts.{body-parts}
-use Rattle.ends.specs.Positions.{one-branch, one-operation, operation-at, branch-at}
+use Rattle.ends.specs.Positions.{one-branch, one-operation, operation-at}
 use Rattle.writer.specs.declared.Added.{Added}
 use Rattle.writer.specs.Writer.{handed, begun, Written, writtenIs, isWritable, filledWith, beginOn, addOperation, addBranch}
 use Rattle.writer.specs.Tests.{parts-handed}

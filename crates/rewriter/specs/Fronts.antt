@@ -1,6 +1,6 @@
 -- A front part of a statement, with fewer operations in its last branch or fewer branches: it is legal where the whole is, and no longer. Assumes nothing.
 use mathlib.Core.Path.{_≡_, refl, sym, ap, _∙_}
-use Prim.Native.Nat.{ℕ, suc, _≤_}
+use Prim.Native.Nat.{ℕ, _≤_}
 use native.Mathlib.Omega.{arith}
 use mathlib.Core.Bool.{Bool, true}
 use mathlib.Core.List.{List, [], _∷_, _++_, map, append-assoc, append-nil, Memᴰ·append-left}
@@ -17,6 +17,7 @@ use Rattle.statements.specs.Flat.{fewFields}
 use Rattle.ends.specs.BranchEnds.{fewIn}
 use Rattle.ends.specs.LegalEnds.{legal-fewIn}
 use Rattle.writer.specs.Writer.{begun, inLast, withOperation, withBranch, isWritable}
+use Rattle.writer.specs.WriterLaws.{in-last-length}
 use Rattle.composer.specs.Grown.{raised, operation-bytes, branch-bytes}
 use Rattle.ends.specs.Counts.{countAt}
 use Rattle.rewriter.specs.Additions.{Addition, operation, branch, additions, grow, growAll}
@@ -65,12 +66,6 @@ in-last-front [] o t = tt
 in-last-front (b ∷ []) o t = both (legalBranch b) true (branch-front b o (and-l (legalBranch (record { guard = b .guard; body = b .body ++ (o ∷ []) })) true t)) tt
 in-last-front (b ∷ c ∷ bs) o t =
     both (legalBranch b) (all legalBranch (c ∷ bs)) (and-l (legalBranch b) (all legalBranch (inLast (c ∷ bs) o)) t) (in-last-front (c ∷ bs) o (and-r (legalBranch b) (all legalBranch (inLast (c ∷ bs) o)) t))
-
-in-last-length : (bs : List Branch) (o : Operation) → length (inLast bs o) ≡ length bs
-unfolding inLast
-in-last-length [] o = refl
-in-last-length (b ∷ []) o = refl
-in-last-length (b ∷ c ∷ bs) o = ap suc (in-last-length (c ∷ bs) o)
 
 -- a statement with fewer branches, or fewer operations in them
 fewer : (st whole : Statement) → st .host ≡ whole .host → st .process ≡ whole .process → 1 ≤ length (st .branches) → length (st .branches) ≤ length (whole .branches)

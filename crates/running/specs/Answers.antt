@@ -14,24 +14,18 @@ use Rattle.model.specs.Statement.{Statement}
 use Rattle.model.specs.Execution.{Executed, attempt, tuplesAfter}
 use Rattle.model.specs.ExecutionLaws.{attempt-runs}
 use Rattle.model.specs.Run.{Run, withTuples, Reply, outcomeOf, valuesOf, ranReply}
-use Rattle.layout.specs.Replies.{replyBytes, repliesBytes}
+use Rattle.layout.specs.Replies.{repliesBytes}
 use Rattle.layout.specs.ReplyLaws.{reply-length}
 use Rattle.layout.specs.Stored.{Stored, Turned}
 use Rattle.replies.specs.Written.{boundTo, reply, ranValues, Wrote}
+use Rattle.replies.specs.TurnLaws.{turned-one}
 use Rattle.running.specs.Executed.{still, executed, Left}
 
--- ---- no reply, and one
+-- ---- no reply
 
 pub turned-still : (s : Run) (state out : List ℕ) → Stored state s → Turned (still s) out state out 0
 unfolding still repliesBytes flatMap
 turned-still s state out h = record { stored = h; bytes = refl; number = refl }
-
-pub one-reply : (r : Reply) → repliesBytes (r ∷ []) ≡ replyBytes r
-unfolding repliesBytes flatMap
-one-reply r = append-nil (replyBytes r)
-
-turned-one : (s : Run) (r : Reply) (state buffer out : List ℕ) (n : ℕ) → Stored state s → Wrote r buffer out n → Turned (record { run = s; replies = r ∷ [] }) buffer state out n
-turned-one s r state buffer out n h w = record { stored = h; bytes = rw (one-reply r) (w .bytes); number = rw (one-reply r) (w .number) }
 
 -- ---- no longer than a reply with all variables
 

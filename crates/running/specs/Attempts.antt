@@ -20,7 +20,7 @@ use Rattle.model.specs.Effects.{ran-fit}
 use Rattle.model.specs.ReadBack.{parse-again}
 use Rattle.layout.specs.States.{decode}
 use Rattle.layout.specs.Stored.{IsStored, statementOf, legal-parse}
-use Rattle.header.specs.Rows.{tupleCountPart, tuplesPart, withRow, withPart}
+use Rattle.header.specs.Rows.{tupleCountPart, tuplesPart, withRow, withPart, tuplesLent}
 use Rattle.tuples.specs.Section.{tuplesOf}
 use Rattle.replies.specs.Written.{boundTo, ranValues}
 use Rattle.replies.specs.WrittenLaws.{ran-failed, bound-from}
@@ -30,7 +30,7 @@ use Rattle.bindings.specs.Variables.{bindingsOf, bindings-at, bindings-length, 
 use Rattle.operations.specs.Performing.{resultIs}
 use Rattle.engine.specs.Attempting.{ranIs, Attempted}
 use Rattle.running.specs.Executed.{MayRun, Left}
-use Rattle.state.specs.Lent.{tuplesLent, tuples-read}
+use Rattle.state.specs.Lent.{tuples-read}
 
 -- ---- the answer
 

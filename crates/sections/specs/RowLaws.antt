@@ -60,7 +60,7 @@ joined-length w [] h = omega (arith, zero-mul w)
 joined-length w (r ∷ rs) h = length-append r (joined rs) ∙ omega (arith, h r (List·Memᴰ·head refl), joined-length w rs (λ s m. h s (List·Memᴰ·tail m)), suc-mul (length rs) w)
 
 -- rows that are joined and cut again
-pub pieces-joined : (w : ℕ) (rs : List (List ℕ)) (rest : List ℕ) → Wides w rs → pieces (length rs) w (joined rs ++ rest) ≡ rs
+pieces-joined : (w : ℕ) (rs : List (List ℕ)) (rest : List ℕ) → Wides w rs → pieces (length rs) w (joined rs ++ rest) ≡ rs
 unfolding joined pieces
 pieces-joined w [] rest h = refl
 pieces-joined w (r ∷ rs) rest h =

@@ -4,7 +4,7 @@ use Prim.Native.Nat.{ℕ, zero, suc, _+_, _-_, _*_, _≤_, _<_}
 use native.Mathlib.Nat.{mul-le-mul-right}
 use native.Mathlib.Omega.{arith}
 use mathlib.Core.Bool.{Bool, true, false, cond}
-use mathlib.Core.List.{List, [], _∷_, _++_, map, flatMap, List·Memᴰ, List·Memᴰ·head, List·Memᴰ·tail}
+use mathlib.Core.List.{List, [], _∷_, _++_, map, map-append, flatMap, List·Memᴰ, List·Memᴰ·head, List·Memᴰ·tail}
 use lib.ListN.{length, take, drop, getD, length-map}
 use Rattle.basis.specs.Lists.{zeros, pad, keep, pieces, removeAt}
 use Rattle.basis.specs.ListLaws.{Each, each-nil, each-cons, each-append, each-map, keep-in, keep-few, removeAt-in}
@@ -47,10 +47,6 @@ removeAt-map f zero [] = refl
 removeAt-map f zero (a ∷ l) = refl
 removeAt-map f (suc i) [] = refl
 removeAt-map f (suc i) (a ∷ l) = ap (λ r. f a ∷ r) (removeAt-map f i l)
-
-map-append : {A B : Type 0} (f : A → B) (l k : List A) → map f (l ++ k) ≡ map f l ++ map f k
-map-append f [] k = refl
-map-append f (a ∷ l) k = ap (λ r. f a ∷ r) (map-append f l k)
 
 keep-map : {A B : Type 0} (t : B → Bool) (u : A → Bool) (f : A → B) (l : List A) → Each (λ (a : A). t (f a) ≡ u a) l → keep t (map f l) ≡ map f (keep u l)
 unfolding keep

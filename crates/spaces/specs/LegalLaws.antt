@@ -2,20 +2,20 @@
 use mathlib.Core.Path.{_≡_, refl, sym, ap, _∙_}
 use Prim.Native.Nat.{ℕ, zero, suc, _+_, _-_, _*_, _≤_, _<_}
 use native.Mathlib.Omega.{arith}
-use mathlib.Core.Bool.{Bool, true, false, not, cond, _&&_, _||_}
+use mathlib.Core.Bool.{Bool, true, false, cond, _&&_, _||_}
 use mathlib.Core.Logic.{_⊎_, inl, inr}
-use mathlib.Core.List.{List, [], _∷_, _++_, map, List·Memᴰ·head}
-use lib.ListN.{length, take, drop, getD, length-append, length-drop, take-append-drop}
-use lib.Seq.{take-all, drop-at, drop-cons, drop-drop, length-take-le}
-use lib.Dec.{T, leb, eqb, ltb, eqb→eq, leb→le, le→leb, ltb→lt, lt→ltb}
+use mathlib.Core.List.{List, [], _∷_, _++_, List·Memᴰ·head}
+use lib.ListN.{length, take, drop, getD, length-drop, take-append-drop}
+use lib.Seq.{take-all, drop-at, drop-cons}
+use lib.Dec.{T, leb, eqb, eqb→eq, leb→le, le→leb, ltb→lt, lt→ltb}
 use lib.Pow.{areBytes}
-use borrow.Author.Tests.{eq-eqb, ne-eqb, eqb-true, eqb-false}
-use Rattle.basis.specs.Logic.{and-l, and-r, both, or-l, or-r, or-cases, true-is}
+use borrow.Author.Tests.{eq-eqb, ne-eqb}
+use Rattle.basis.specs.Logic.{and-l, and-r, both, or-l, or-cases, true-is}
 use Rattle.basis.specs.Lists.{all, any, pairwise, zeros, pad, pieces, sameBytes}
 use Rattle.basis.specs.ListLaws.{Each, all-at, all-of, any-at, same-refl, same→eq}
 use Rattle.basis.specs.Numbers.{bigEndian, number, numberAt}
-use Rattle.basis.specs.NumberLaws.{bytes-take, bytes-drop, bigEndian-length, number-bigEndian, numberAt-lt}
-use Rattle.basis.specs.Sizes.{spaceWidth, kindWidth, processWidth, processes, spaceNumbers, mostSpaces, spaceKindAt, spaceOwnerAt, spaceSize, spacesSize}
+use Rattle.basis.specs.NumberLaws.{bigEndian-length, number-bigEndian, numberAt-lt}
+use Rattle.basis.specs.Sizes.{spaceWidth, kindWidth, processWidth, mostSpaces, spaceKindAt, spaceOwnerAt, spaceSize, spacesSize}
 use Rattle.model.specs.Run.{Access, shared, private, Space}
 use Rattle.model.specs.Valid.{isShared}
 use Rattle.model.specs.Sound.{OwnerFits}
@@ -25,7 +25,7 @@ use Rattle.words.specs.ZeroLaws.{zerosAt→zeros, zeros→zerosAt}
 use Rattle.words.specs.WordLaws.{numberAt-1}
 use Rattle.sections.specs.Rows.{Section}
 use Rattle.sections.specs.RowLaws.{pad-whole, number-written, number-of-row, pieces-wide, pieces-bytes, section-of, section-unused}
-use Rattle.sections.specs.Shapes.{Same, items, holds-of, area-same, area-of}
+use Rattle.sections.specs.Shapes.{Same, holds-of, area-same, area-of}
 use Rattle.scans.specs.Tests.{ascends, ascends-within, ascends-rise, ascends-of, ascends-map, refused, same-test}
 use Rattle.spaces.specs.Spaces.{Small, spaceShape, spacesOf, IsListed, Rising}
 use Rattle.spaces.specs.Legal.{lower, zeroOpen, belowNext, spacesLegal, accessOk}
@@ -93,7 +93,7 @@ module _ (r : List ℕ) (long : length r ≡ spaceSize) (bytes : T (areBytes r))
       go true q f = tt
       go false q f =
           let k : 0 ≡ kind = ap (λ (l : List ℕ). getD l 0 0) f in
-          let o : number (bigEndian processWidth 0) ≡ number (bigEndian processWidth owner) = ap (λ (l : List ℕ). number (drop 1 l)) f in
+          let o : number (bigEndian processWidth 0) ≡ number (bigEndian processWidth owner) = ap (λ (l : List ℕ). number (drop kindWidth l)) f in
           let z : owner ≡ 0 = sym (number-bigEndian processWidth owner (numberAt-lt spaceOwnerAt processWidth r bytes)) ∙ sym o ∙ number-bigEndian processWidth 0 (omega arith) in
           both (eqb kind 0) (eqb owner 0) (true-is (eqb kind 0) (eq-eqb kind 0 (sym k))) (true-is (eqb owner 0) (eq-eqb owner 0 z))
 

@@ -5,7 +5,7 @@ use native.Mathlib.Omega.{arith}
 use mathlib.Core.List.{List, [], _∷_}
 use mathlib.Core.Logic.{_⊎_, inl, inr}
 use lib.ListN.{length, getD}
-use lib.Dec.{T, leb, ltb, ltb→lt}
+use lib.Dec.{leb, ltb, ltb→lt}
 use borrow.Author.Tests.{eq-eqb, ne-eqb, ltb-true, ltb-false, leb-true, leb-false, lt-ltb, le-ltb}
 use mathlib.Core.Bool.{Bool, true, false, _&&_}
 use Rattle.basis.specs.Logic.{and-l, and-r}
@@ -25,9 +25,11 @@ use Rattle.spaces.specs.Legal.{lower}
 abbrev pub numberIn : List Space → ℕ → ℕ
 numberIn ss i = (getD ss i noSpace) .number
 
-pub number-at : (p : List ℕ) (n i x : ℕ) → i < n → x ≡ numberAt (i * spaceSize + 0) spaceWidth p → x ≡ numberIn (spacesOf p n) i
+pub number-at : (p : List ℕ) (n i x : ℕ) → i < n → x ≡ numberAt (i * spaceSize) spaceWidth p → x ≡ numberIn (spacesOf p n) i
 unfolding spaceRead
-number-at p n i x h e = e ∙ sym (ap (λ (a : Space). a .number) (item-at spaceShape p n noSpace i h) ∙ number-in (i * spaceSize) spaceSize 0 spaceWidth p (omega arith))
+number-at p n i x h e =
+    let at : i * spaceSize ≡ i * spaceSize + 0 = omega arith in
+    e ∙ ap (λ (k : ℕ). numberAt k spaceWidth p) at ∙ sym (ap (λ (a : Space). a .number) (item-at spaceShape p n noSpace i h) ∙ number-in (i * spaceSize) spaceSize 0 spaceWidth p (omega arith))
 
 rising-at : (ss : List Space) (i j : ℕ) → Rising ss → i < j → j < length ss → numberIn ss i < numberIn ss j
 unfolding pairwise

@@ -16,11 +16,11 @@ ghost use Rattle.spaces.specs.SearchLaws.{numberIn, reached};
 const ROW: usize = words::SPACE;
 
 // The number of the space at an index.
-fn number_at(spaces: &[u8], n: usize, i: usize) -> u32
+fn number_at(spaces: &[u8], n: usize, i: usize) -> u16
     requires { ⌜ (n * spaceSize ≤ length (now spaces)) × (i < n) ⌝ }
     ensures { λ r. ⌜ r ≡ numberIn (spacesOf (now (spaces .entry)) n) i ⌝ }
 {
-    sections::field(spaces, ROW, n, i, 0, words::SPACE_WIDTH)
+    words::space_number(spaces, i * ROW)
 }
 
 // Whether there is a space at an index, whose number is not above this one.
@@ -31,7 +31,7 @@ fn reaches(spaces: &[u8], n: usize, i: usize, number: u16) -> bool
     if n <= i {
         return false;
     }
-    number_at(spaces, n, i) <= number as u32
+    number_at(spaces, n, i) <= number
 }
 
 // The index of the space of a number, where numbers rise; n, where it is not open: by halving what is left from index `low` on. It begins
@@ -54,7 +54,7 @@ fn place(spaces: &[u8], n: usize, number: u16) -> usize
     if n <= low {
         return n;
     }
-    if number_at(spaces, n, low) == number as u32 {
+    if number_at(spaces, n, low) == number {
         return low;
     }
     n

@@ -5,6 +5,7 @@ use native.Mathlib.Omega.{arith}
 use mathlib.Core.List.{List}
 use lib.ListN.{length, set}
 use Rattle.basis.specs.Numbers.{bigEndian}
+use Rattle.basis.specs.NumberLaws.{one-byte}
 use Rattle.basis.specs.Sizes.{countWidth, spaceSize, waitingSize, spacesSize, waitingAllSize}
 use Rattle.model.specs.Matching.{Tuple}
 use Rattle.model.specs.Run.{Space, Waiting, Run, withSpaces, withTuples, withWaiting}
@@ -12,7 +13,7 @@ use Rattle.model.specs.Fit.{Fit}
 use Rattle.layout.specs.States.{spaceBytes, waitingBytes, area}
 use Rattle.layout.specs.Stored.{Stored}
 use Rattle.header.specs.Rows.{partsOf, spaceCountPart, tupleCountPart, waitingCountPart, spacesPart, tuplesPart, waitingPart, Cut, withRow, withPart}
-use Rattle.header.specs.RowLaws.{stored-parts, parts-stored, one-byte, section-written}
+use Rattle.header.specs.RowLaws.{stored-parts, parts-stored, section-written}
 use Rattle.spaces.specs.Spaces.{spaceShape, Listed}
 use Rattle.queue.specs.Queue.{waitingShape, Queued}
 use Rattle.tuples.specs.Section.{tupleShape, Holds}

@@ -11,13 +11,9 @@ use Rattle.model.specs.SpaceLaws.{open-below}
 use Rattle.layout.specs.States.{decode}
 use Rattle.layout.specs.Stored.{IsStored}
 use Rattle.sections.specs.Shapes.{holds, holds-read}
-use Rattle.header.specs.Rows.{partsOf, tuplesPart, partAt}
+use Rattle.header.specs.Rows.{partsOf, tuplesPart, tuplesLent}
 use Rattle.header.specs.StoredLaws.{part-holds}
 use Rattle.tuples.specs.Section.{Legal, tupleShape, tuplesOf, Holds, Section}
-
--- the section as it is lent
-abbrev pub tuplesLent : List ℕ → List ℕ
-tuplesLent b = partAt tuplesPart b
 
 tuples-legal : (s : Run) → Fit s → Each Legal (s .tuples)
 tuples-legal s f t m = let k = f .tuples .each t m in (k .0, omega (arith, open-below (s .spaces) (s .next) (t .space) (f .spaces .below) (k .1), f .spaces .limit))

@@ -12,9 +12,9 @@ use Rattle.model.specs.Fit.{Queue, Fit}
 use Rattle.model.specs.Effects.{queue-keep, queue-removeAt}
 use Rattle.layout.specs.States.{decode}
 use Rattle.layout.specs.Stored.{Stored, IsStored}
-use Rattle.header.specs.Rows.{waitingCountPart, waitingPart, withRow, withPart}
+use Rattle.header.specs.Rows.{waitingCountPart, waitingPart, withRow, withPart, queueLent}
 use Rattle.queue.specs.Queue.{waitingOf, Queued, ofOther, waits}
-use Rattle.lent.specs.Sections.{queueLent, queue-read}
+use Rattle.lent.specs.Sections.{queue-read}
 use Rattle.state.specs.Meaning.{enqueued}
 use Rattle.state.specs.Changes.{waiting-changed}
 

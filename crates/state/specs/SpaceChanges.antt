@@ -9,6 +9,7 @@ use lib.Dec.{T, eqb, leb, nleb→lt}
 use Rattle.basis.specs.Logic.{or-no, is-true, and-l, and-r}
 use Rattle.basis.specs.Lists.{all, keep}
 use Rattle.basis.specs.Numbers.{bigEndian}
+use Rattle.basis.specs.NumberLaws.{one-byte}
 use Rattle.basis.specs.Sizes.{countWidth, nextWidth, processes, mostSpaces, spaceNumbers, spaceSize, spacesSize}
 use Rattle.model.specs.Matching.{Tuple}
 use Rattle.model.specs.Run.{Space, Run, withSpaces, withTuples}
@@ -17,10 +18,10 @@ use Rattle.model.specs.Fit.{Fit}
 use Rattle.model.specs.Effects.{opened-fit, closed-fit}
 use Rattle.layout.specs.States.{spaceBytes, area, decode}
 use Rattle.layout.specs.Stored.{Stored, IsStored}
-use Rattle.header.specs.Rows.{partsOf, nextPart, spaceCountPart, spacesPart, Cut, withRow, withPart}
-use Rattle.header.specs.RowLaws.{stored-parts, parts-stored, one-byte, row-written, section-written}
+use Rattle.header.specs.Rows.{partsOf, nextPart, spaceCountPart, spacesPart, Cut, withRow, withPart, spacesLent}
+use Rattle.header.specs.RowLaws.{stored-parts, parts-stored, row-written, section-written}
 use Rattle.spaces.specs.Spaces.{spaceShape, spacesOf, Listed, otherThan, opening}
-use Rattle.lent.specs.Sections.{spacesLent, spaces-read}
+use Rattle.lent.specs.Sections.{spaces-read}
 use Rattle.tuples.specs.Section.{outside}
 use Rattle.state.specs.Changes.{spaces-changed}
 

@@ -1,18 +1,17 @@
 -- What CR and DS do to the tuples. Assumes nothing.
 use mathlib.Core.Path.{_≡_, refl, sym, ap, _∙_}
-use Prim.Native.Nat.{ℕ, zero, suc, _+_, _*_, _≤_, _<_}
+use Prim.Native.Nat.{ℕ, zero, suc, _+_, _≤_, _<_}
 use native.Mathlib.Numerals.{add-one}
 use native.Mathlib.Omega.{arith}
 use mathlib.Core.Bool.{Bool, true}
-use mathlib.Core.List.{List, [], _∷_, _++_, map, append-assoc, append-nil}
+use mathlib.Core.List.{List, [], _∷_, _++_, map-append, append-assoc, append-nil}
 use lib.ListN.{length, length-append, length-map}
 use lib.Dec.{T, ltb, lt→ltb, lit≤}
 use Rattle.basis.specs.Logic.{both}
 use Rattle.basis.specs.Lists.{keep, countFrom}
 use Rattle.basis.specs.ListLaws.{each-nil, each-cons, each-append, keep-in, keep-few, countFrom-length}
-use Rattle.basis.specs.Sizes.{hosts, positions, mostMonitors, mostTuples, valueSize, tupleValuesAt, failureFields}
+use Rattle.basis.specs.Sizes.{hosts, positions, mostMonitors, mostTuples, failureFields}
 use Rattle.model.specs.Value.{value, whole, name, legalValue}
-use Rattle.model.specs.Writing.{valueBytes}
 use Rattle.model.specs.Matching.{Tuple}
 use Rattle.model.specs.BoundKinds as Kinds
 use Rattle.model.specs.Keeps.{Kept, LegalIn, legal-tuple}
@@ -22,14 +21,13 @@ use Rattle.model.specs.Fit.{Fit}
 use Rattle.model.specs.Effects.{failures-legal}
 use Rattle.layout.specs.States.{tupleRead, decode}
 use Rattle.layout.specs.Stored.{Stored, IsStored}
-use Rattle.words.specs.Over.{over}
 use Rattle.sections.specs.Shapes.{holds-read}
-use Rattle.header.specs.Rows.{tupleCountPart, tuplesPart, withRow, withPart}
+use Rattle.header.specs.Rows.{tupleCountPart, tuplesPart, withRow, withPart, tuplesLent}
 use Rattle.tuples.specs.Section.{Legal, entryBytes, tupleShape, tuplesOf, Holds, Section, outside}
-use Rattle.tuples.specs.Entry.{Entry, begun}
+use Rattle.tuples.specs.Entry.{Entry, begun, withValue}
 use Rattle.tuples.specs.EntryLaws.{entry-of, entry-read, begun-more, begun-all}
 use Rattle.state.specs.Meaning.{failures}
-use Rattle.state.specs.Lent.{tuplesLent, tuples-read, is-section}
+use Rattle.state.specs.Lent.{tuples-read, is-section}
 use Rattle.state.specs.Changes.{tuples-changed}
 
 -- ---- the limits
@@ -61,8 +59,7 @@ failure-lawful h m a b = (
 )
 
 -- its three values, one after the other
-pub failure-written : (h m : ℕ) (d₀ d₁ d₂ d₃ : List ℕ) → d₀ ≡ begun 0 failureFields [] → d₁ ≡ over d₀ (tupleValuesAt + 0 * valueSize) (valueBytes (value name 1)) valueSize
-    → d₂ ≡ over d₁ (tupleValuesAt + 1 * valueSize) (valueBytes (value whole m)) valueSize → d₃ ≡ over d₂ (tupleValuesAt + 2 * valueSize) (valueBytes (value whole h)) valueSize → d₃ ≡ entryBytes (failureTuple h m)
+pub failure-written : (h m : ℕ) (d₀ d₁ d₂ d₃ : List ℕ) → d₀ ≡ begun 0 failureFields [] → d₁ ≡ withValue 0 (value name 1) d₀ → d₂ ≡ withValue 1 (value whole m) d₁ → d₃ ≡ withValue 2 (value whole h) d₂ → d₃ ≡ entryBytes (failureTuple h m)
 unfolding failureTuple
 failure-written h m d₀ d₁ d₂ d₃ none one two three =
     let first : d₁ ≡ begun 0 failureFields (value name 1 ∷ []) = begun-more 0 failureFields [] d₀ d₁ 0 (value name 1) none refl (omega arith) one in
@@ -88,10 +85,6 @@ failures-more : (h m : ℕ) (ts : List Tuple) → ts ++ failures h (m + 1) ≡ (
 failures-more h m ts =
     let e : 1 + m ≡ m + 1 = omega arith in
     rw (count-more m 1, map-append (failureTuple h) (countFrom m 1) ((1 + m) ∷ []), e) (sym (append-assoc ts (failures h m) (failureTuple h (m + 1) ∷ [])))
-  where
-    map-append : (f : ℕ → Tuple) (l k : List ℕ) → map f (l ++ k) ≡ map f l ++ map f k
-    map-append f [] k = refl
-    map-append f (a ∷ l) k = ap (λ (r : List Tuple). f a ∷ r) (map-append f l k)
 
 -- none yet, and one more
 pub failed-none : (h n : ℕ) (p : List ℕ) → Section p n → Holds p (n + 0) (tuplesOf p n ++ failures h 0)

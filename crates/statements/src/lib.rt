@@ -5,7 +5,7 @@ ghost use lib.ListN.{length, getD};
 ghost use mathlib.Core.Option.{none};
 ghost use Rattle.model.specs.Statement.{always};
 ghost use Rattle.basis.specs.Lists.{all};
-ghost use Rattle.basis.specs.Sizes.{mostFields, spacesWidth};
+ghost use Rattle.basis.specs.Sizes.{spaceWidth, mostFields, spacesWidth};
 ghost use Rattle.model.specs.Reading.{field, several};
 ghost use Rattle.statements.specs.At.{readAt, passed};
 ghost use Rattle.statements.specs.Flat.{codes, hasForm, fieldIs, fieldRead, fieldsRead, operationOf, operationIs, Reads, fewFields, operationAt};
@@ -253,7 +253,7 @@ fn read_counted(b: &[u8], at: usize, code: u8, from: u16, to: u16) -> OperationR
 
 // The bytes of the spaces that an operation of a code above 0 names.
 fn spaces_width(code: u8) -> usize
-    ensures { λ r. ⌜ (r ≡ namedWidth code) × (r ≤ spacesWidth) ⌝ }
+    ensures { λ r. ⌜ (r ≡ namedWidth code) × (spaceWidth ≤ r) × (r ≤ spacesWidth) ⌝ }
 {
     if code < TWO_SPACES {
         SPACE_WIDTH

@@ -1,32 +1,29 @@
 -- The tests of header and sections, all together, are `isState`. Assumes nothing.
-use mathlib.Core.Path.{_≡_, refl, sym, ap, subst, _∙_}
-use Prim.Native.Nat.{ℕ, _+_, _*_, _≤_, _<_}
+use mathlib.Core.Path.{_≡_, sym, subst, _∙_}
+use Prim.Native.Nat.{ℕ, _≤_}
 use native.Mathlib.Omega.{arith}
-use mathlib.Core.Bool.{Bool, true, false, not, _&&_}
+use mathlib.Core.Bool.{Bool, true, false, _&&_}
 use mathlib.Core.List.{List, List·Memᴰ}
-use lib.ListN.{length, take, drop, getD, length-drop}
-use lib.Seq.{length-take-le}
+use lib.ListN.{length, getD}
 use lib.Dec.{T, leb, eqb, leb→le, eqb→eq}
 use lib.Pow.{areBytes}
 use borrow.Author.Tests.{eq-eqb}
 use Rattle.basis.specs.Logic.{and-l, and-r, both, true-is}
-use Rattle.basis.specs.Lists.{all, any, pairwise, sameBytes}
+use Rattle.basis.specs.Lists.{all, pairwise, sameBytes}
 use Rattle.basis.specs.ListLaws.{all-at, all-of, same-refl, same→eq}
-use Rattle.basis.specs.Numbers.{numberAt}
-use Rattle.basis.specs.NumberLaws.{bytes-take, bytes-drop}
-use Rattle.basis.specs.Sizes.{mostMonitors, spaceNumbers, mostSpaces, mostTuples, mostWaiting, tupleCountWidth, spaceCountAt, tupleCountAt, waitingCountAt, headerSize, spaceSize, tupleSize, waitingSize, spacesSize, tuplesSize, waitingAllSize, spacesAt, tuplesAt, waitingAt, stateSize}
+use Rattle.basis.specs.Sizes.{mostSpaces, mostTuples, mostWaiting, spaceSize, tupleSize, waitingSize, spacesSize, tuplesSize, waitingAllSize, stateSize}
 use Rattle.model.specs.Matching.{Tuple}
 use Rattle.model.specs.Execution.{canWait}
-use Rattle.model.specs.Run.{Space, Waiting, Run, hostUp}
+use Rattle.model.specs.Run.{Space, Waiting, hostUp}
 use Rattle.model.specs.Valid.{countsFit, legalTuple, spacesRise, waitingRise, zeroShared, spacesBelowNext, tuplesInOpen, positionsFit, bodiesLegal, waitingHostsUp, processesDiffer, openToProcess, namedSpacesOpen, waitingCanWait, noneReady, validRun}
 use Rattle.model.specs.ValidLaws.{valid-counts, valid-tuples, valid-spaces-rise, valid-waiting-rise, valid-zero, valid-below-next, valid-in-open, valid-positions, valid-bodies, valid-hosts-up, valid-processes, valid-named-open, valid-can-wait, valid-none-ready, valid-of}
-use Rattle.layout.specs.States.{spaceBytes, tupleBytes, waitingBytes, area, byteAt, spaceRead, tupleRead, waitingRead, encode, entries, decode}
+use Rattle.layout.specs.States.{spaceBytes, tupleBytes, waitingBytes, area, encode, decode}
 use Rattle.layout.specs.IsState.{isState}
 use Rattle.layout.specs.StateLaws.{state-encode, state-valid}
-use Rattle.sections.specs.Shapes.{entries-length}
 use Rattle.scans.specs.Tests.{refused, same-test}
+use Rattle.header.specs.Rows.{spacesPart, waitingPart, spacesLent, tuplesLent, queueLent}
 use Rattle.header.specs.Whole.{headerLegal}
-use Rattle.header.specs.WholeLaws.{lent-says, Says, says-same, same-says, Header, legal-header, header-legal}
+use Rattle.header.specs.WholeLaws.{spaces-said, tuples-said, waiting-said, part-long, part-bytes, Says, says-same, same-says, Header, legal-header, header-legal}
 use Rattle.tuples.specs.Section.{tuplesOf}
 use Rattle.spaces.specs.Spaces.{spacesOf, IsListed, Rising}
 use Rattle.spaces.specs.Legal.{spacesLegal}
@@ -36,7 +33,7 @@ use Rattle.queue.specs.Legal.{otherProcess, queueLegal, inOrder}
 use Rattle.queue.specs.LegalLaws.{legal-queued}
 use Rattle.waiting.specs.Waits.{openToIt, mayWait}
 use Rattle.oldest.specs.Searching.{unready}
-use Rattle.validation.specs.Validation.{spacesIn, tuplesIn, waitingIn, inOpen, tuplesLegal, waitsLegal, contentsLegal}
+use Rattle.validation.specs.Validation.{tuplesLegal, waitsLegal, contentsLegal}
 
 -- ---- the counts
 
@@ -56,34 +53,19 @@ counts-of b t = record {
 -- ---- the sections say what the state says
 
 module _ (b : List ℕ) (k : Counts b) where
-  pub spaces-are : spacesOf (spacesIn b) (length ((decode b) .spaces)) ≡ (decode b) .spaces
-  unfolding decode
-  spaces-are =
-      let n : ℕ = byteAt spaceCountAt b in
-      let c : length (entries spaceRead n spaceSize spacesAt b) ≡ n = entries-length spaceRead n spaceSize spacesAt b in
-      let few = k .spaces in
-      ap (λ (m : ℕ). entries spaceRead m spaceSize 0 (spacesIn b)) c ∙ lent-says spaceRead n spaceSize spacesSize spacesAt b (omega arith)
+  spaces-are : spacesOf (spacesLent b) (length ((decode b) .spaces)) ≡ (decode b) .spaces
+  spaces-are = spaces-said b (k .spaces)
 
-  pub tuples-are : tuplesOf (tuplesIn b) (length ((decode b) .tuples)) ≡ (decode b) .tuples
-  unfolding decode
-  tuples-are =
-      let n : ℕ = numberAt tupleCountAt tupleCountWidth b in
-      let c : length (entries tupleRead n tupleSize tuplesAt b) ≡ n = entries-length tupleRead n tupleSize tuplesAt b in
-      let few = k .tuples in
-      ap (λ (m : ℕ). entries tupleRead m tupleSize 0 (tuplesIn b)) c ∙ lent-says tupleRead n tupleSize tuplesSize tuplesAt b (omega arith)
+  tuples-are : tuplesOf (tuplesLent b) (length ((decode b) .tuples)) ≡ (decode b) .tuples
+  tuples-are = tuples-said b (k .tuples)
 
-  pub waiting-are : waitingOf (waitingIn b) (length ((decode b) .waiting)) ≡ (decode b) .waiting
-  unfolding decode
-  waiting-are =
-      let n : ℕ = byteAt waitingCountAt b in
-      let c : length (entries waitingRead n waitingSize waitingAt b) ≡ n = entries-length waitingRead n waitingSize waitingAt b in
-      let few = k .waiting in
-      ap (λ (m : ℕ). entries waitingRead m waitingSize 0 (waitingIn b)) c ∙ lent-says waitingRead n waitingSize waitingAllSize waitingAt b (omega arith)
+  waiting-are : waitingOf (queueLent b) (length ((decode b) .waiting)) ≡ (decode b) .waiting
+  waiting-are = waiting-said b (k .waiting)
 
   -- the sections' tests on the run's lists
-  contents-are : contentsLegal b ≡ ((sameBytes (area spacesSize spaceSize spaceBytes ((decode b) .spaces)) (spacesIn b) && (spacesRise (decode b) && (zeroShared (decode b) && spacesBelowNext (decode b))))
-      && ((sameBytes (area tuplesSize tupleSize tupleBytes ((decode b) .tuples)) (tuplesIn b) && (all legalTuple ((decode b) .tuples) && tuplesInOpen (decode b)))
-      && ((sameBytes (area waitingAllSize waitingSize waitingBytes ((decode b) .waiting)) (waitingIn b) && bodiesLegal (decode b))
+  contents-are : contentsLegal b ≡ ((sameBytes (area spacesSize spaceSize spaceBytes ((decode b) .spaces)) (spacesLent b) && (spacesRise (decode b) && (zeroShared (decode b) && spacesBelowNext (decode b))))
+      && ((sameBytes (area tuplesSize tupleSize tupleBytes ((decode b) .tuples)) (tuplesLent b) && (all legalTuple ((decode b) .tuples) && tuplesInOpen (decode b)))
+      && ((sameBytes (area waitingAllSize waitingSize waitingBytes ((decode b) .waiting)) (queueLent b) && bodiesLegal (decode b))
       && ((waitingRise (decode b) && positionsFit (decode b)) && (processesDiffer (decode b) && (all (mayWait ((decode b) .up) ((decode b) .spaces)) ((decode b) .waiting) && noneReady (decode b)))))))
   unfolding contentsLegal spacesLegal tuplesLegal queueLegal waitsLegal inOrder spacesRise zeroShared spacesBelowNext tuplesInOpen bodiesLegal waitingRise positionsFit processesDiffer noneReady
   contents-are = rw (spaces-are, tuples-are, waiting-are)
@@ -100,9 +82,9 @@ module _ (b : List ℕ) (bytes : T (areBytes b)) (long : length b ≡ stateSize)
       let says : Says b = record {
         mark = header .mark;
         unused = header .unused;
-        spaces = same→eq (area spacesSize spaceSize spaceBytes (s .spaces)) (spacesIn b) (search (and-l, and-r, u) depth 10);
-        tuples = same→eq (area tuplesSize tupleSize tupleBytes (s .tuples)) (tuplesIn b) (search (and-l, and-r, u) depth 10);
-        waiting = same→eq (area waitingAllSize waitingSize waitingBytes (s .waiting)) (waitingIn b) (search (and-l, and-r, u) depth 10);
+        spaces = same→eq (area spacesSize spaceSize spaceBytes (s .spaces)) (spacesLent b) (search (and-l, and-r, u) depth 10);
+        tuples = same→eq (area tuplesSize tupleSize tupleBytes (s .tuples)) (tuplesLent b) (search (and-l, and-r, u) depth 10);
+        waiting = same→eq (area waitingAllSize waitingSize waitingBytes (s .waiting)) (queueLent b) (search (and-l, and-r, u) depth 10);
       } in
       let each = all-at (mayWait (s .up) (s .spaces)) (s .waiting) (search (and-l, and-r, u) depth 10) in
       let up : T (waitingHostsUp s) = all-of (λ w. getD (s .up) (w .statement .host) false) (s .waiting) (λ w m. and-l (getD (s .up) (w .statement .host) false) (openToIt (s .spaces) w && canWait (w .statement)) (each w m)) in
@@ -129,9 +111,9 @@ module _ (b : List ℕ) (bytes : T (areBytes b)) (long : length b ≡ stateSize)
         let v : T (validRun s) = state-valid b i in
         let says : Says b = same-says b long (state-encode b i) in
         let k : Counts b = counts-of b (valid-counts s v) in
-        let spaces : T (sameBytes (area spacesSize spaceSize spaceBytes (s .spaces)) (spacesIn b)) = rw (says .spaces) (true-is (sameBytes (spacesIn b) (spacesIn b)) (same-refl (spacesIn b))) in
-        let tuples : T (sameBytes (area tuplesSize tupleSize tupleBytes (s .tuples)) (tuplesIn b)) = rw (says .tuples) (true-is (sameBytes (tuplesIn b) (tuplesIn b)) (same-refl (tuplesIn b))) in
-        let waiting : T (sameBytes (area waitingAllSize waitingSize waitingBytes (s .waiting)) (waitingIn b)) = rw (says .waiting) (true-is (sameBytes (waitingIn b) (waitingIn b)) (same-refl (waitingIn b))) in
+        let spaces : T (sameBytes (area spacesSize spaceSize spaceBytes (s .spaces)) (spacesLent b)) = rw (says .spaces) (true-is (sameBytes (spacesLent b) (spacesLent b)) (same-refl (spacesLent b))) in
+        let tuples : T (sameBytes (area tuplesSize tupleSize tupleBytes (s .tuples)) (tuplesLent b)) = rw (says .tuples) (true-is (sameBytes (tuplesLent b) (tuplesLent b)) (same-refl (tuplesLent b))) in
+        let waiting : T (sameBytes (area waitingAllSize waitingSize waitingBytes (s .waiting)) (queueLent b)) = rw (says .waiting) (true-is (sameBytes (queueLent b) (queueLent b)) (same-refl (queueLent b))) in
         let up = all-at (λ w. getD (s .up) (w .statement .host) false) (s .waiting) (valid-hosts-up s v) in
         let named = all-at (openToIt (s .spaces)) (s .waiting) (valid-named-open s v) in
         let wait = all-at (λ w. canWait (w .statement)) (s .waiting) (valid-can-wait s v) in
@@ -159,9 +141,6 @@ module _ (b : List ℕ) (bytes : T (areBytes b)) (long : length b ≡ stateSize)
 pub within : (b : List ℕ) (n : ℕ) → length b ≡ stateSize → T (leb n stateSize) → n ≤ length b
 within b n e t = subst (λ (k : ℕ). n ≤ k) (sym e) (leb→le n stateSize t)
 
-pub section-long : (b : List ℕ) (whole at : ℕ) → at + whole ≤ length b → length (take whole (drop at b)) ≡ whole
-section-long b whole at h = length-take-le whole (drop at b) (simp length-drop (omega arith))
-
 module _ (last : ℕ) (up : List Bool) (ss : List Space) (ts : List Tuple) (ws : List Waiting) (o : Bool) (eo : o ≡ inOrder last ws) where
   pub no-order : o ≡ false → false ≡ waitsLegal last up ss ts ws
   unfolding waitsLegal
@@ -182,24 +161,24 @@ module _ (last : ℕ) (up : List Bool) (ss : List Space) (ts : List Tuple) (ws :
       then-ready z r e = rw (sym eo ∙ yo, sym ed ∙ yd, sym em ∙ z) e
 
 -- the sections one after the other
-module _ (b : List ℕ) (n next m k : ℕ) (en : n ≡ length ((decode b) .spaces)) (ex : next ≡ (decode b) .next) (r : Bool) (er : r ≡ spacesLegal (spacesIn b) n next) where
-  spaces-test : spacesLegal (spacesIn b) (length ((decode b) .spaces)) ((decode b) .next) ≡ r
+module _ (b : List ℕ) (n next m k : ℕ) (en : n ≡ length ((decode b) .spaces)) (ex : next ≡ (decode b) .next) (r : Bool) (er : r ≡ spacesLegal (spacesLent b) n next) where
+  spaces-test : spacesLegal (spacesLent b) (length ((decode b) .spaces)) ((decode b) .next) ≡ r
   spaces-test = sym (er ∙ rw (en, ex))
 
   pub no-spaces : r ≡ false → false ≡ contentsLegal b
   unfolding contentsLegal
   no-spaces z = rw (spaces-test ∙ z)
 
-  module _ (yr : r ≡ true) (em : m ≡ length ((decode b) .tuples)) (t : Bool) (et : t ≡ tuplesLegal (spacesOf (spacesIn b) n) (tuplesIn b) m) where
-    tuples-test : tuplesLegal (spacesOf (spacesIn b) (length ((decode b) .spaces))) (tuplesIn b) (length ((decode b) .tuples)) ≡ t
+  module _ (yr : r ≡ true) (em : m ≡ length ((decode b) .tuples)) (t : Bool) (et : t ≡ tuplesLegal (spacesOf (spacesLent b) n) (tuplesLent b) m) where
+    tuples-test : tuplesLegal (spacesOf (spacesLent b) (length ((decode b) .spaces))) (tuplesLent b) (length ((decode b) .tuples)) ≡ t
     tuples-test = sym (et ∙ rw (en, em))
 
     pub no-tuples : t ≡ false → false ≡ contentsLegal b
     unfolding contentsLegal
     no-tuples z = rw (spaces-test ∙ yr, tuples-test ∙ z)
 
-    module _ (yt : t ≡ true) (ek : k ≡ length ((decode b) .waiting)) (q : Bool) (eq : q ≡ queueLegal (waitingIn b) k) where
-      queue-test : queueLegal (waitingIn b) (length ((decode b) .waiting)) ≡ q
+    module _ (yt : t ≡ true) (ek : k ≡ length ((decode b) .waiting)) (q : Bool) (eq : q ≡ queueLegal (queueLent b) k) where
+      queue-test : queueLegal (queueLent b) (length ((decode b) .waiting)) ≡ q
       queue-test = sym (eq ∙ rw ek)
 
       pub no-queue : q ≡ false → false ≡ contentsLegal b
@@ -207,20 +186,18 @@ module _ (b : List ℕ) (n next m k : ℕ) (en : n ≡ length ((decode b) .space
       no-queue z = rw (spaces-test ∙ yr, tuples-test ∙ yt, queue-test ∙ z)
 
       pub then-waits : q ≡ true → (last : ℕ) → last ≡ (decode b) .last → (up : List Bool) → up ≡ (decode b) .up
-          → (w : Bool) → w ≡ waitsLegal last up (spacesOf (spacesIn b) n) (tuplesOf (tuplesIn b) m) (waitingOf (waitingIn b) k) → w ≡ contentsLegal b
+          → (w : Bool) → w ≡ waitsLegal last up (spacesOf (spacesLent b) n) (tuplesOf (tuplesLent b) m) (waitingOf (queueLent b) k) → w ≡ contentsLegal b
       unfolding contentsLegal
       then-waits z last el up eu w e = e ∙ rw (spaces-test ∙ yr, tuples-test ∙ yt, queue-test ∙ z, en, em, ek, el, eu)
 
 -- the sections that passed
 module _ (b : List ℕ) (bytes : T (areBytes b)) (long : length b ≡ stateSize) where
-  part-bytes : (whole at : ℕ) → T (areBytes (take whole (drop at b)))
-  part-bytes whole at = bytes-take whole (drop at b) (bytes-drop at b bytes)
-
-  pub listed : (n next : ℕ) → T (spacesLegal (spacesIn b) n next) → n ≡ length ((decode b) .spaces) → Counts b → IsListed (spacesIn b) n × Rising (spacesOf (spacesIn b) n)
+  pub listed : (n next : ℕ) → T (spacesLegal (spacesLent b) n next) → n ≡ length ((decode b) .spaces) → Counts b → IsListed (spacesLent b) n × Rising (spacesOf (spacesLent b) n)
   listed n next t e k =
       let few : n ≤ mostSpaces = omega (arith, k .spaces) in
-      let l : length (spacesIn b) ≡ spacesSize = section-long b spacesSize spacesAt (omega arith) in
-      (legal-listed (spacesIn b) n next (part-bytes spacesSize spacesAt) l few t, legal-rising (spacesIn b) n next (part-bytes spacesSize spacesAt) l few t)
+      let l : length (spacesLent b) ≡ spacesSize = part-long b spacesPart (omega arith) in
+      let are : T (areBytes (spacesLent b)) = part-bytes b spacesPart bytes in
+      (legal-listed (spacesLent b) n next are l few t, legal-rising (spacesLent b) n next are l few t)
 
-  pub queued : (k : ℕ) → k ≤ mostWaiting → T (queueLegal (waitingIn b) k) → IsQueued (waitingIn b) k
-  queued k few t = legal-queued (waitingIn b) k (part-bytes waitingAllSize waitingAt) (section-long b waitingAllSize waitingAt (omega arith)) few t
+  pub queued : (k : ℕ) → k ≤ mostWaiting → T (queueLegal (queueLent b) k) → IsQueued (queueLent b) k
+  queued k few t = legal-queued (queueLent b) k (part-bytes b waitingPart bytes) (part-long b waitingPart (omega arith)) few t

@@ -1,28 +1,26 @@
 -- The tests of the tuples' bytes come to what "The state buffer" asks of them. Assumes nothing.
-use mathlib.Core.Path.{_≡_, refl, sym, ap, _∙_}
-use Prim.Native.Nat.{ℕ, _+_, _-_, _*_, _≤_, _<_}
+use mathlib.Core.Path.{_≡_, sym, ap, _∙_}
+use Prim.Native.Nat.{ℕ, _-_, _*_, _≤_, _<_}
 use native.Mathlib.Omega.{arith}
-use mathlib.Core.Bool.{Bool, true, false, _&&_}
+use mathlib.Core.Bool.{Bool, true, false}
 use mathlib.Core.List.{List, [], map}
-use lib.ListN.{length, take, drop, getD}
+use lib.ListN.{length, getD}
 use lib.Dec.{T}
 use Rattle.basis.specs.Logic.{and-l, and-r, both, true-is}
 use Rattle.basis.specs.Lists.{all, pad, pieces, sameBytes}
 use Rattle.basis.specs.ListLaws.{Each, all-at, all-of, same-refl, same→eq}
-use Rattle.basis.specs.Numbers.{numberAt}
-use Rattle.basis.specs.Sizes.{spaceWidth, mostTuples, tupleSize, tuplesSize}
+use Rattle.basis.specs.Sizes.{mostTuples, tupleSize, tuplesSize}
 use Rattle.model.specs.Matching.{Tuple}
 use Rattle.model.specs.Run.{Space, isOpen}
 use Rattle.model.specs.Valid.{legalTuple}
 use Rattle.layout.specs.States.{tupleBytes, area, tupleRead, entries}
 use Rattle.words.specs.Over.{zerosAt}
 use Rattle.sections.specs.Rows.{Section}
-use Rattle.sections.specs.RowLaws.{pieces-at, number-of-row, section-of, section-unused}
+use Rattle.sections.specs.RowLaws.{pieces-at, section-of, section-unused}
 use Rattle.sections.specs.Shapes.{Shape, Same, area-same, area-of}
 use Rattle.scans.specs.Tests.{all-map}
-use Rattle.tuples.specs.Section.{entryAt, tupleAt, tuplesOf}
+use Rattle.tuples.specs.Section.{entryAt, tupleAt}
 use Rattle.tuples.specs.Entry.{isEntry}
-use Rattle.tuples.specs.PlaceLaws.{space-at}
 use Rattle.spaces.specs.Spaces.{spacesOf}
 use Rattle.validation.specs.Validation.{rowOpen, inOpen, tuplesLegal}
 
@@ -41,10 +39,9 @@ module _ (q : List ℕ) (n : ℕ) (p : List ℕ) (m i : ℕ) (h : i < m) (r : Bo
   no-tuple z = rw (entry-is ∙ z)
 
   module _ (yes : r ≡ true) (x : ℕ) (t : Bool) (ex : x ≡ (tupleAt p i) .space) (et : t ≡ isOpen (spacesOf q n) x) where
-    open-here : isOpen (spacesOf q n) (numberAt 0 spaceWidth row) ≡ t
-    open-here =
-        let at : i * tupleSize ≡ i * tupleSize + 0 = omega arith in
-        sym (et ∙ ap (isOpen (spacesOf q n)) (ex ∙ sym (space-at p i) ∙ ap (λ (k : ℕ). numberAt k spaceWidth p) at ∙ number-of-row m tupleSize p i 0 spaceWidth h (omega arith)))
+    open-here : inOpen (spacesOf q n) (tupleRead row) ≡ t
+    unfolding tupleAt entryAt
+    open-here = sym (et ∙ ap (isOpen (spacesOf q n)) ex ∙ ap (λ (r : List ℕ). inOpen (spacesOf q n) (tupleRead r)) (sym (pieces-at m tupleSize p i h)))
 
     pub no-space : t ≡ false → rowOpen (spacesOf q n) row ≡ false
     unfolding rowOpen
@@ -74,7 +71,7 @@ module _ (ss : List Space) (p : List ℕ) (m : ℕ) (long : length p ≡ tuplesS
     placed : T (inOpen ss (tupleRead r))
 
   one : (r : List ℕ) → T (rowOpen ss r) → One r
-  unfolding rowOpen isEntry tupleRead
+  unfolding rowOpen isEntry
   one r t = record {
     legal = search (and-l, and-r, t) depth 6;
     same = same→eq (pad tupleSize (tupleBytes (tupleRead r))) r (search (and-l, and-r, t) depth 6);
@@ -82,7 +79,7 @@ module _ (ss : List Space) (p : List ℕ) (m : ℕ) (long : length p ≡ tuplesS
   }
 
   of-one : (r : List ℕ) → One r → T (rowOpen ss r)
-  unfolding rowOpen isEntry tupleRead
+  unfolding rowOpen isEntry
   of-one r o =
       let legal : T (legalTuple (tupleRead r)) = o .legal in
       let same : T (sameBytes (pad tupleSize (tupleBytes (tupleRead r))) r) = rw (o .same) (true-is (sameBytes r r) (same-refl r)) in

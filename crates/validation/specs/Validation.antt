@@ -2,14 +2,14 @@
 use Prim.Native.Nat.{ℕ}
 use mathlib.Core.Bool.{Bool, _&&_}
 use mathlib.Core.List.{List}
-use lib.ListN.{length, take, drop}
+use lib.ListN.{length}
 use Rattle.basis.specs.Lists.{all, pairwise, sameBytes}
-use Rattle.basis.specs.Numbers.{numberAt}
-use Rattle.basis.specs.Sizes.{spaceWidth, tupleSize, spacesSize, tuplesSize, waitingAllSize, spacesAt, tuplesAt, waitingAt}
+use Rattle.basis.specs.Sizes.{tupleSize, tuplesSize}
 use Rattle.model.specs.Matching.{Tuple}
-use Rattle.model.specs.Run.{Space, Waiting, Run, isOpen}
+use Rattle.model.specs.Run.{Space, Waiting, isOpen}
 use Rattle.model.specs.Valid.{legalTuple}
-use Rattle.layout.specs.States.{tupleBytes, area, decode}
+use Rattle.layout.specs.States.{tupleBytes, area, tupleRead, decode}
+use Rattle.header.specs.Rows.{spacesLent, tuplesLent, queueLent}
 use Rattle.tuples.specs.Section.{tuplesOf}
 use Rattle.tuples.specs.Entry.{isEntry}
 use Rattle.spaces.specs.Spaces.{spacesOf}
@@ -19,22 +19,12 @@ use Rattle.queue.specs.Legal.{otherProcess, queueLegal, inOrder}
 use Rattle.waiting.specs.Waits.{mayWait}
 use Rattle.oldest.specs.Searching.{unready}
 
--- the sections of a state
-abbrev pub spacesIn : List ℕ → List ℕ
-spacesIn b = take spacesSize (drop spacesAt b)
-
-abbrev pub tuplesIn : List ℕ → List ℕ
-tuplesIn b = take tuplesSize (drop tuplesAt b)
-
-abbrev pub waitingIn : List ℕ → List ℕ
-waitingIn b = take waitingAllSize (drop waitingAt b)
+abbrev pub inOpen : List Space → Tuple → Bool
+inOpen ss t = isOpen ss (t .space)
 
 -- a row of a legal tuple in an open space
 unfoldable pub rowOpen : List Space → List ℕ → Bool
-rowOpen ss r = isEntry r && isOpen ss (numberAt 0 spaceWidth r)
-
-abbrev pub inOpen : List Space → Tuple → Bool
-inOpen ss t = isOpen ss (t .space)
+rowOpen ss r = isEntry r && inOpen ss (tupleRead r)
 
 -- the section is that of the tuples that it says, each legal; "tuples lie in open spaces"
 unfoldable pub tuplesLegal : List Space → List ℕ → ℕ → Bool
@@ -48,7 +38,7 @@ waitsLegal last up ss ts ws = inOrder last ws && (pairwise otherProcess ws && (a
 unfoldable pub contentsLegal : List ℕ → Bool
 contentsLegal b =
     let s = decode b in
-    let ss = spacesOf (spacesIn b) (length (s .spaces)) in
-    spacesLegal (spacesIn b) (length (s .spaces)) (s .next)
-    && (tuplesLegal ss (tuplesIn b) (length (s .tuples))
-    && (queueLegal (waitingIn b) (length (s .waiting)) && waitsLegal (s .last) (s .up) ss (tuplesOf (tuplesIn b) (length (s .tuples))) (waitingOf (waitingIn b) (length (s .waiting)))))
+    let ss = spacesOf (spacesLent b) (length (s .spaces)) in
+    spacesLegal (spacesLent b) (length (s .spaces)) (s .next)
+    && (tuplesLegal ss (tuplesLent b) (length (s .tuples))
+    && (queueLegal (queueLent b) (length (s .waiting)) && waitsLegal (s .last) (s .up) ss (tuplesOf (tuplesLent b) (length (s .tuples))) (waitingOf (queueLent b) (length (s .waiting)))))

@@ -1,20 +1,18 @@
 // The test of "The state buffer": whether bytes are a state.
 ghost use mathlib.Core.Path.{_≡_};
 ghost use Prim.Native.Nat.{_≤_};
-ghost use mathlib.Core.Bool.{_&&_};
 ghost use lib.ListN.{length};
 ghost use lib.Dec.{T};
 ghost use Rattle.basis.specs.Lists.{all, pieces};
 ghost use Rattle.basis.specs.Numbers.{bits};
-ghost use Rattle.basis.specs.Sizes.{hosts, mostSpaces, mostTuples, tupleSize, tuplesSize, stateSize};
+ghost use Rattle.basis.specs.Sizes.{hosts, mostTuples, tupleSize, tuplesSize, stateSize};
 ghost use Rattle.model.specs.Valid.{countsFit};
 ghost use Rattle.layout.specs.States.{decode};
 ghost use Rattle.layout.specs.IsState.{isState};
 ghost use Rattle.tuples.specs.Section.{tuplesOf};
 ghost use Rattle.spaces.specs.Spaces.{spacesOf, IsListed, Rising};
 ghost use Rattle.queue.specs.Queue.{waitingOf, IsQueued};
-ghost use Rattle.header.specs.Whole.{headerLegal};
-ghost use Rattle.validation.specs.Validation.{spacesIn, tuplesIn, waitingIn, rowOpen, tuplesLegal, waitsLegal, contentsLegal};
+ghost use Rattle.validation.specs.Validation.{rowOpen, tuplesLegal, waitsLegal, contentsLegal};
 
 // Each of m rows is that of a legal tuple, and "tuples lie in open spaces".
 fn rows_ok(tuples: &[u8], m: usize, spaces: &[u8], n: usize) -> bool
@@ -39,7 +37,7 @@ fn tuples_ok(tuples: &[u8], m: usize, spaces: &[u8], n: usize) -> bool
     requires { ⌜ (length (now tuples) ≡ tuplesSize) × (m ≤ mostTuples) × IsListed (now spaces) n × Rising (spacesOf (now spaces) n) ⌝ }
     ensures { λ r. ⌜ r ≡ tuplesLegal (spacesOf (now (spaces .entry)) n) (now (tuples .entry)) m ⌝ }
 {
-    if !scans::unused_zero(tuples, words::TUPLE, m) {
+    if !wellformed::unused_zero(tuples, m) {
         return false;
     }
     rows_ok(tuples, m, spaces, n)

@@ -1,31 +1,27 @@
 -- What the tests of a waiting statement show. Assumes nothing.
 use mathlib.Core.Path.{_≡_, refl, sym, ap, _∙_}
-use Prim.Native.Nat.{ℕ, _+_, _-_, _*_, _≤_, _<_}
+use Prim.Native.Nat.{ℕ, _+_, _-_, _≤_, _<_}
 use native.Mathlib.Omega.{arith}
 use mathlib.Core.Bool.{Bool, true, false, not, _&&_, _||_}
 use mathlib.Core.List.{List, [], _∷_, List·Memᴰ·head, List·Memᴰ·tail}
-use lib.ListN.{length, take, drop, getD}
+use lib.ListN.{take, drop, getD}
 use lib.Dec.{T, leb, leb→le}
 use Rattle.basis.specs.Logic.{and-l, true-is}
 use Rattle.words.specs.Over.{zerosAt}
 use Rattle.sections.specs.RowLaws.{number-of-row}
-use Rattle.basis.specs.Choice.{isSome}
 use Rattle.basis.specs.Lists.{all, any, pieces}
 use Rattle.basis.specs.ListLaws.{Each}
-use Rattle.basis.specs.Numbers.{numberAt, bits}
+use Rattle.basis.specs.Numbers.{bits}
 use Rattle.basis.specs.Sizes.{lengthWidth, hosts, mostBody, waitingLengthAt, waitingBodyAt, waitingSize}
 use Rattle.model.specs.Statement.{Statement, spacesNamed}
 use Rattle.model.specs.Legal.{legalBody}
 use Rattle.model.specs.Execution.{canWait}
 use Rattle.model.specs.Run.{Space, Waiting, isOpen, isDenied}
-use Rattle.layout.specs.Stored.{statementOf, statement-of}
-use Rattle.sections.specs.Shapes.{holds-length}
-use Rattle.queue.specs.Queue.{waitingShape, waitingOf, IsQueued}
-use Rattle.queue.specs.PlaceLaws.{waitingNth, bodySize, bodyOf, stands}
+use Rattle.queue.specs.PlaceLaws.{bodySize, bodyPlace}
 use Rattle.queue.specs.Legal.{sizeIn, bodyFits, rowLegal}
 use Rattle.queue.specs.LegalLaws.{part-body}
 use Rattle.names.specs.Asks.{asks}
-use Rattle.names.specs.declared.Asked.the-variants.{Shut}
+use Rattle.names.specs.declared.Which.the-variants.{Shut}
 use Rattle.waiting.specs.Waits.{openToIt, mayWait}
 
 -- ---- a row
@@ -34,7 +30,7 @@ pub no-fit : (p : List ℕ) (n i : ℕ) (r : Bool) → r ≡ bodyFits (getD (pie
 unfolding rowLegal
 no-fit p n i r er z = rw (sym er ∙ z)
 
-module _ (p : List ℕ) (n i len : ℕ) (h : i < n) (el : len ≡ numberAt (i * waitingSize + waitingLengthAt) lengthWidth p) (r : Bool) (er : r ≡ bodyFits (getD (pieces n waitingSize p) i [])) where
+module _ (p : List ℕ) (n i len : ℕ) (h : i < n) (el : len ≡ bodySize p i) (r : Bool) (er : r ≡ bodyFits (getD (pieces n waitingSize p) i [])) where
   pub fit-small : r ≡ true → len ≤ mostBody
   unfolding bodyFits
   fit-small y =
@@ -44,27 +40,9 @@ module _ (p : List ℕ) (n i len : ℕ) (h : i < n) (el : len ≡ numberAt (i * 
       omega (arith, el ∙ number-of-row n waitingSize p i waitingLengthAt lengthWidth h (omega arith))
 
   -- then its body decides
-  pub then-body : r ≡ true → (at : ℕ) → at ≡ i * waitingSize + waitingBodyAt → len ≤ mostBody → legalBody (take (at + len - at) (drop at p)) ≡ rowLegal (getD (pieces n waitingSize p) i [])
+  pub then-body : r ≡ true → (at : ℕ) → at ≡ bodyPlace i → len ≤ mostBody → legalBody (take (at + len - at) (drop at p)) ≡ rowLegal (getD (pieces n waitingSize p) i [])
   unfolding rowLegal
   then-body y at ea small = rw (sym er ∙ y) (ap legalBody (part-body p n i len h el at ea small))
-
--- ---- the body of a statement that waits
-
-module _ (p : List ℕ) (n i at len : ℕ) (h : IsQueued p n) (b : i < n) (ea : at ≡ i * waitingSize + waitingBodyAt) (el : len ≡ bodySize p i) where
-  part-is : take (at + len - at) (drop at p) ≡ bodyOf p i
-  part-is =
-      let e : at + len - at ≡ len = omega arith in
-      rw (e, el, ea)
-
-  pub part-room : at + len ≤ length p
-  part-room = omega (arith, h .few, stands p n i h b .size, holds-length waitingShape p n (waitingOf p n) h)
-
-  pub part-legal : T (legalBody (take (at + len - at) (drop at p)))
-  unfolding legalBody isSome
-  part-legal = rw (part-is, stands p n i h b .parsed) tt
-
-  pub part-statement : statementOf (take (at + len - at) (drop at p)) ≡ (waitingNth p n i) .statement
-  part-statement = ap statementOf part-is ∙ statement-of (bodyOf p i) ((waitingNth p n i) .statement) (stands p n i h b .parsed)
 
 -- ---- whether it may wait
 

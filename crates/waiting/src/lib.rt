@@ -11,7 +11,7 @@ ghost use Rattle.queue.specs.Queue.{waitingOf, IsQueued};
 ghost use Rattle.queue.specs.PlaceLaws.{waitingNth};
 ghost use Rattle.queue.specs.Legal.{rowLegal, queueLegal};
 ghost use Rattle.waiting.specs.Waits.{mayWait};
-use names::Asked;
+use names::Which;
 
 // ---- their section
 
@@ -48,7 +48,7 @@ pub fn is_queue(waiting: &[u8], n: usize) -> bool
     requires { ⌜ (length (now waiting) ≡ waitingAllSize) × (n ≤ mostWaiting) ⌝ }
     ensures { λ r. ⌜ r ≡ queueLegal (now (waiting .entry)) n ⌝ }
 {
-    if !scans::unused_zero(waiting, words::WAITING, n) {
+    if !queue::unused_zero(waiting, n) {
         return false;
     }
     rows_ok(waiting, n)
@@ -67,7 +67,7 @@ fn may_wait(waiting: &[u8], n: usize, i: usize, spaces: &[u8], m: usize, up: u16
     let at = queue::body_at(i);
     let len = queue::body_length(waiting, i);
     let process = queue::process(waiting, n, i);
-    if names::some_named(&waiting[at..at + len], spaces, m, Asked::Shut(process)) {
+    if names::some_named(&waiting[at..at + len], spaces, m, Which::Shut(process)) {
         return false;
     }
     guards::can_wait(&waiting[at..at + len])

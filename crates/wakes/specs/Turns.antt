@@ -20,12 +20,13 @@ use Rattle.layout.specs.Replies.{repliesBytes}
 use Rattle.layout.specs.ReplyLaws.{reply-length}
 use Rattle.layout.specs.Stored.{IsStored, Turned, statementOf}
 use Rattle.header.specs.StoredLaws.{stored-says}
+use Rattle.replies.specs.TurnLaws.{one-reply}
 use Rattle.queue.specs.PlaceLaws.{noWaiting}
 use Rattle.oldest.specs.Searching.{readyIn, oldestOf}
 use Rattle.oldest.specs.declared.Oldest.{Oldest}
 use Rattle.oldest.specs.declared.Oldest.the-variants.{At, Nobody}
 use Rattle.running.specs.Executed.{MayRun, still, executed}
-use Rattle.running.specs.Answers.{turned-still, one-reply}
+use Rattle.running.specs.Answers.{turned-still}
 use Rattle.leaving.specs.Leaving.{place, without, Gone}
 use Rattle.leaving.specs.LeavingLaws.{place-opened}
 use Rattle.wakes.specs.Woken.{wokenAt, woken}

@@ -6,22 +6,23 @@ use Prim.Native.Nat.{ℕ, zero, suc, _+_, _-_, _*_, _^_, _≤_, _<_}
 use native.Mathlib.Omega.{arith}
 use lib.ListN.{length, take, drop, getD, length-drop}
 use lib.Seq.{take-add, drop-cons, drop-drop, drop-at, length-take-le}
-use lib.Dec.{T, eqb, leb, ltb, lt→ltb}
+use lib.Dec.{T, eqb, leb}
 use lib.Pow.{areBytes}
 use borrow.Author.Tests.{eq-eqb, ne-eqb, le-leb, lt-leb, lt-ltb, le-ltb}
-use Rattle.basis.specs.Logic.{both, is-true, true-is}
+use Rattle.basis.specs.Logic.{is-true, true-is}
 use Rattle.basis.specs.Lists.{all, zeros, sameBytes}
 use Rattle.basis.specs.ListLaws.{same-refl, same→eq}
 use Rattle.basis.specs.Numbers.{bigEndian, number, numberAt}
-use Rattle.basis.specs.NumberLaws.{bytes-take, bytes-drop, bigEndian-number, numberAt-lt}
+use Rattle.basis.specs.NumberLaws.{bytes-of, numberAt-lt}
 use Rattle.basis.specs.PadLaws.{pad-split}
-use Rattle.basis.specs.Sizes.{spaceWidth, kindWidth, bitsWidth, mostFields, valueBitsAt, valueSize, fieldCountAt, tupleValuesAt, tupleSize}
+use Rattle.basis.specs.Sizes.{spaceWidth, kindWidth, bitsWidth, countWidth, mostFields, valueBitsAt, valueSize, fieldCountAt, tupleValuesAt, tupleSize}
 use Rattle.model.specs.Value.{Value, value, legalValue}
 use Rattle.model.specs.Valid.{legalTuple}
 use Rattle.model.specs.Writing.{valueBytes}
 use Rattle.layout.specs.States.{tupleBytes}
 use Rattle.words.specs.Over.{zerosAt}
 use Rattle.words.specs.ZeroLaws.{and-true, zerosAt-one, zerosAt-add, zerosAt→zeros, zeros→zerosAt}
+use Rattle.sections.specs.RowLaws.{number-written}
 use Rattle.tuples.specs.Section.{entryBytes, entryAt, tupleAt}
 use Rattle.tuples.specs.Entry.{isEntry, valueAt, valuesAt, valuesPlace, valueIn, valuesIn, eachField}
 use Rattle.tuples.specs.PlaceLaws.{space-at, count-at, values-of}
@@ -94,26 +95,13 @@ fields-split p c k (suc n) f at e =
 
 -- ---- the bytes of an entry
 
--- bytes one by one are bytes
-bytes-of : (p : List ℕ) → ((k : ℕ) → getD p k 0 < 256) → T (areBytes p)
-bytes-of [] f = tt
-bytes-of (b ∷ p) f = both (ltb b 256) (areBytes p) (lt→ltb b 256 (f 0)) (bytes-of p (λ k. f (suc k)))
-
 module _ (p : List ℕ) (bytes : T (areBytes p)) where
-  -- bytes are written as they are read
-  number-back : (at w : ℕ) → at + w ≤ length p → bigEndian w (numberAt at w p) ≡ take w (drop at p)
-  unfolding numberAt
-  number-back at w h =
-      let q : List ℕ = take w (drop at p) in
-      let l : length q ≡ w = length-take-le w (drop at p) (simp length-drop (omega arith)) in
-      ap (λ (k : ℕ). bigEndian k (number q)) (sym l) ∙ bigEndian-number q (bytes-take w (drop at p) (bytes-drop at p bytes))
-
   byte-back : (at next : ℕ) → suc at ≡ next → at < length p → drop at p ≡ getD p at 0 ∷ drop next p
   byte-back at next e h = drop-cons p at 0 h ∙ ap (λ (k : ℕ). getD p at 0 ∷ drop k p) e
 
   value-back : (at : ℕ) → at + valueSize ≤ length p → valueBytes (valueAt p at) ≡ take valueSize (drop at p)
   unfolding valueBytes valueAt
-  value-back at h = rw (number-back (at + valueBitsAt) bitsWidth (omega arith), byte-back at (at + valueBitsAt) (omega arith) (omega arith))
+  value-back at h = rw (number-written (at + valueBitsAt) bitsWidth p bytes (omega arith), byte-back at (at + valueBitsAt) (omega arith) (omega arith))
 
   values-back : (c at : ℕ) → at + c * valueSize ≤ length p → flatMap valueBytes (valuesAt p at c) ≡ take (c * valueSize) (drop at p)
   unfolding flatMap valuesAt
@@ -128,17 +116,17 @@ module _ (p : List ℕ) (bytes : T (areBytes p)) where
     used = tupleValuesAt + c * valueSize
 
     abbrev unused : ℕ
-    unused = (mostFields - c) * valueSize
+    unused = tupleSize - used
 
     -- an entry's tuple is written as its used bytes
     tuple-back : tupleBytes (tupleAt p i) ≡ take used (drop (i * tupleSize) p)
     unfolding tupleBytes
     tuple-back =
         let at : ℕ = i * tupleSize in
-        let s : bigEndian spaceWidth ((tupleAt p i) .space) ≡ take spaceWidth (drop at p) = ap (bigEndian spaceWidth) (sym (space-at p i)) ∙ number-back at spaceWidth (omega arith) in
+        let s : bigEndian spaceWidth ((tupleAt p i) .space) ≡ take spaceWidth (drop at p) = ap (bigEndian spaceWidth) (sym (space-at p i)) ∙ number-written at spaceWidth p bytes (omega arith) in
         let v : flatMap valueBytes ((tupleAt p i) .values) ≡ take (c * valueSize) (drop (valuesPlace i) p) = ap (flatMap valueBytes) (values-of p i c is few) ∙ values-back c (valuesPlace i) (omega arith) in
-        let e : used ≡ spaceWidth + suc (c * valueSize) = omega arith in
-        rw (s, ← count-at p i, v, e, take-add spaceWidth (suc (c * valueSize)) (drop at p), drop-drop spaceWidth at p, byte-back (at + fieldCountAt) (valuesPlace i) (omega arith) (omega arith))
+        let e : used ≡ spaceWidth + (countWidth + c * valueSize) = omega arith in
+        rw (s, ← count-at p i, v, e, take-add spaceWidth (countWidth + c * valueSize) (drop at p), drop-drop spaceWidth at p, take-add countWidth (c * valueSize) (drop (at + fieldCountAt) p), byte-back (at + fieldCountAt) (valuesPlace i) (omega arith) (omega arith))
 
     -- then zeros
     entry-back : entryBytes (tupleAt p i) ≡ take used (drop (i * tupleSize) p) ++ zeros unused
@@ -222,9 +210,10 @@ module _ (p : List ℕ) (i c : ℕ) (is : c ≡ length ((tupleAt p i) .values)) 
   entry-fields bytes room low few =
       let at : ℕ = valuesPlace i in
       let e : c + (mostFields - c) ≡ mostFields = omega arith in
-      let a : at + c * valueSize ≡ i * tupleSize + (tupleValuesAt + c * valueSize) = omega arith in
-      let z : Bool = zerosAt p (i * tupleSize + (tupleValuesAt + c * valueSize)) ((mostFields - c) * valueSize) in
-      let split : eachField (fieldOkAt c) 0 (valuesAt p at mostFields) ≡ (all legalValue (valuesAt p at c) && z) =
-      ap (λ (n : ℕ). eachField (fieldOkAt c) 0 (valuesAt p at n)) (sym e) ∙ fields-split p c (mostFields - c) c 0 at (omega arith) ∙ ap (λ (k : ℕ). all legalValue (valuesAt p at c) && zerosAt p k ((mostFields - c) * valueSize)) a in
+      let used : ℕ = tupleValuesAt + c * valueSize in
+      let a : at + c * valueSize ≡ i * tupleSize + used = omega arith in
+      let n : (mostFields - c) * valueSize ≡ tupleSize - used = omega arith in
+      let split : eachField (fieldOkAt c) 0 (valuesAt p at mostFields) ≡ (all legalValue (valuesAt p at c) && zerosAt p (i * tupleSize + used) (tupleSize - used)) =
+      ap (λ (n : ℕ). eachField (fieldOkAt c) 0 (valuesAt p at n)) (sym e) ∙ fields-split p c (mostFields - c) c 0 at (omega arith) ∙ (λ j. all legalValue (valuesAt p at c) && zerosAt p (a j) (n j)) in
       split
       ∙ sym (rw (same-zeros p (bytes-of p bytes) i c (sym is) few room, ← is, le-leb 1 c low, le-leb c mostFields few, values-of p i c (sym is) few))

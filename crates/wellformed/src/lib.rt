@@ -1,8 +1,9 @@
-// Which rows of the tuples are the entries of legal tuples, for the test of a state.
+// Which rows of the tuples are the entries of legal tuples, and the zeros past them, for the test of a state.
 ghost use mathlib.Core.Path.{_≡_};
-ghost use Prim.Native.Nat.{_+_, _*_, _≤_, _<_};
+ghost use Prim.Native.Nat.{_+_, _-_, _*_, _≤_, _<_};
 ghost use lib.ListN.{length};
 ghost use Rattle.basis.specs.Sizes.{mostFields, tupleSize};
+ghost use Rattle.words.specs.Over.{zerosAt};
 ghost use Rattle.tuples.specs.Section.{entryAt};
 ghost use Rattle.tuples.specs.Entry.{isEntry, valueIn, valuesIn, eachField};
 ghost use Rattle.wellformed.specs.Fields.{fieldOk, fieldOkAt};
@@ -54,4 +55,12 @@ pub fn tuple_ok(tuples: &[u8], i: usize) -> bool
         return false;
     }
     fields_ok(tuples, i, count)
+}
+
+// "All unused bytes are zero": those past n rows.
+pub fn unused_zero(tuples: &[u8], n: usize) -> bool
+    requires { ⌜ n * tupleSize ≤ length (now tuples) ⌝ }
+    ensures { λ r. ⌜ r ≡ zerosAt (now (tuples .entry)) (n * tupleSize) (length (now (tuples .entry)) - n * tupleSize) ⌝ }
+{
+    scans::unused_zero(tuples, words::TUPLE, n)
 }

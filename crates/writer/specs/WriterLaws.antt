@@ -2,8 +2,8 @@
 use mathlib.Core.Path.{_≡_, refl, sym, ap, subst, _∙_}
 use mathlib.Core.Bool.{true, false}
 use mathlib.Core.Option.{Option, none, some, Option·none-ne-some, Option·some-injective}
-use mathlib.Core.List.{List, _++_}
-use Prim.Native.Nat.{ℕ, _+_, _≤_, _<_}
+use mathlib.Core.List.{List, [], _∷_, _++_}
+use Prim.Native.Nat.{ℕ, suc, _≤_, _<_}
 use native.Mathlib.Omega.{arith}
 use lib.ListN.{length, take, drop, length-append, length-drop}
 use lib.Seq.{take-append-seam, drop-append-seam}
@@ -13,12 +13,21 @@ use Rattle.basis.specs.Choice.{maybe, isSome, cond-ind}
 use Rattle.basis.specs.Logic.{and-l, and-r, is-true, true-is}
 use Rattle.basis.specs.Sizes.{mostBody}
 use Rattle.model.specs.Statement as model
-use Rattle.model.specs.Statement.{Statement}
+use Rattle.model.specs.Statement.{Branch, Statement}
 use Rattle.model.specs.Legal.{legalStatement, parse, legalBody}
 use Rattle.model.specs.Writing.{statementBytes}
 use Rattle.model.specs.RoundTrip.{parse-written}
 use Rattle.statements.specs.declared.Operation.{Operation}
-use Rattle.writer.specs.Writer.{handed, begun, Written, isWritable, refusedBy, filledWith, written, held, beginOn, addTo}
+use Rattle.writer.specs.Writer.{handed, begun, inLast, Written, isWritable, refusedBy, filledWith, written, held, beginOn, addTo}
+
+-- ---- statements that grow
+
+-- an operation more is no branch more
+pub in-last-length : (bs : List Branch) (o : model.Operation) → length (inLast bs o) ≡ length bs
+unfolding inLast
+in-last-length [] o = refl
+in-last-length (b ∷ []) o = refl
+in-last-length (b ∷ c ∷ bs) o = ap suc (in-last-length (c ∷ bs) o)
 
 -- ---- one answer
 

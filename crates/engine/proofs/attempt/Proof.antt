@@ -13,11 +13,12 @@ use Rattle.model.specs.Matching.{unbound}
 use Rattle.model.specs.Execution.{performAll}
 use Rattle.tuples.specs.Section.{tupleShape, tuplesOf, Section}
 use Rattle.sections.specs.Shapes.{holds-length}
+use Rattle.sections.specs.Fronts.{over-zeros, over-section}
 use Rattle.operations.specs.Performing.{Leaves}
 use Rattle.layout.specs.Stored.{statementOf}
 use Rattle.guards.specs.Branches.{body-is}
 use Rattle.guards.specs.Searching.{branchAt}
-use Rattle.engine.specs.Attempting.{picked-branch, attempt-none, attempt-fails, attempt-done, copied-out, copied-in}
+use Rattle.engine.specs.Attempting.{picked-branch, attempt-none, attempt-fails, attempt-done}
 use Rattle.engine.proofs.attempt.Statement.{statement}
 use Rattle.engine.proofs.attempt.Tie as tie
 
@@ -41,7 +42,7 @@ module _ (c : tie.After-copy-rows) where
 
   copied : c .copy-rows .last .0 ≡ section choice
   unfolding zeros
-  copied = c .copy-rows .ensures ∙ copied-out (section choice) (start choice .args .n) (start choice .pre .0)
+  copied = c .copy-rows .ensures ∙ over-zeros tupleShape (section choice) (start choice .args .n) _ (start choice .pre .0)
 
   some-branch : choice .search .result .branch ≡ 0 → ⊥
   some-branch = c .before .before .before .if1 .left
@@ -148,7 +149,7 @@ returns-3 c =
     attempt-done (bytes at) (statementOf (bytes at)) (section at) (start at .args .n) (start at .pre .0) (at .search .result .branch) (at .search .result .at) (at .search .ensures) (some-branch (copy ran))
     (r .outcome) (r .n) (r .vars) (ran .run-branch .last .0) (left-is ran) (back .before .before .before .if2 .left) _
     (c .before .before .copy-rows2 .ensures
-    ∙ copied-in (section at) (ran .run-branch .last .0) (start at .args .n) (r .n) (back .larger .result) (start at .pre .0) (after back) (back .larger .ensures .0) (back .larger .ensures .1))
+    ∙ over-section tupleShape (section at) (ran .run-branch .last .0) (start at .args .n) (r .n) (back .larger .result) _ _ (start at .pre .0) (after back) (back .larger .ensures .0) (back .larger .ensures .1))
 
 pub attempt-spec : {M : Type 1} → statement M
 attempt-spec =

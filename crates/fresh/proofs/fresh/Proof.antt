@@ -14,12 +14,12 @@ module _ (m : tie.After-clear) where
   abbrev cleared : tie.Else1
   cleared = m .before .before
 
-module _ (m : tie.After-copy-at) where
+module _ (m : tie.After-set-mark) where
   abbrev marked : tie.After-clear
-  marked = m .before .before .before .before .before
+  marked = m .before .before .before .before
 
 module _ (m : tie.After-set-next) where
-  abbrev numbered : tie.After-copy-at
+  abbrev numbered : tie.After-set-mark
   numbered = m .before .before .before .before
 
 module _ (m : tie.After-set-space-count) where
@@ -29,11 +29,8 @@ module _ (m : tie.After-set-space-count) where
 clear-requires : tie.Need-clear-requires
 clear-requires c κs = omega (arith, c .before .if1 .left)
 
-slice-aggregate-copy-at : tie.Need-slice-aggregate-copy-at
-slice-aggregate-copy-at c = search needs
-
-copy-at-requires : tie.Need-copy-at-requires
-copy-at-requires c κs = search needs
+set-mark-requires : tie.Need-set-mark-requires
+set-mark-requires c κs = search needs
 
 set-next-requires : tie.Need-set-next-requires
 set-next-requires c κs = search needs
@@ -46,7 +43,7 @@ same-length c =
     let f = c .before .before in
     let e = counted f in
     let d = numbered e in
-    f .set-space-count .kept .0 ∙ (e .set-next .kept .0 ∙ (d .copy-at .kept .0 ∙ marked d .clear .kept .0))
+    f .set-space-count .kept .0 ∙ (e .set-next .kept .0 ∙ (d .set-mark .kept .0 ∙ marked d .clear .kept .0))
 
 returns-2 : tie.Need-returns-2
 returns-2 c =
@@ -55,7 +52,7 @@ returns-2 c =
     let d = numbered e in
     let z = marked d in
     let s = cleared z in
-    fresh-done (s .before .before .args .state .now) (z .clear .last .0) (d .copy-at .last .0) (e .set-next .last .0) (f .set-space-count .last .0) (s .if1 .left) (z .clear .ensures) (d .copy-at .ensures) (e .set-next .ensures) (f .set-space-count .ensures)
+    fresh-done (s .before .before .args .state .now) (z .clear .last .0) (d .set-mark .last .0) (e .set-next .last .0) (f .set-space-count .last .0) (s .if1 .left) (z .clear .ensures) (d .set-mark .ensures) (e .set-next .ensures) (f .set-space-count .ensures)
 
 pub fresh-spec : {M : Type 1} → statement M
 fresh-spec =
@@ -63,8 +60,7 @@ fresh-spec =
     (tie.spec
     returns
     clear-requires
-    slice-aggregate-copy-at
-    copy-at-requires
+    set-mark-requires
     set-next-requires
     set-space-count-requires
     same-length

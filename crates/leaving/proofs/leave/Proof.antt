@@ -44,7 +44,7 @@ position-requires : tie.Need-position-requires
 position-requires c κs = let s = start (c .before .before .before .before) in row (s .args .state .now) (s .args .i) (s .pre .0) (s .pre .1)
 
 leave-requires : tie.Need-leave-requires
-leave-requires c κs = let s = start (copy (c .before)) in (s .pre .0, s .pre .1)
+leave-requires c κs = let s = start (copy (c .before)) in (s .pre .0, omega (arith, s .pre .1))
 
 same-length : tie.Need-same-length
 same-length c =

@@ -1,10 +1,9 @@
 -- `oldest::waiting_ready` meets its contract. Assumes nothing.
 use mathlib.Core.Path.{ap, _∙_}
-use native.Mathlib.Omega.{arith}
 use Rattle.model.specs.Statement.{Statement}
 use Rattle.model.specs.Execution.{ready}
 use Rattle.tuples.specs.Section.{tuplesOf}
-use Rattle.lent.specs.Bodies.{row-within, body-small, body-legal, body-statement}
+use Rattle.queue.specs.Bodies.{row-within, body-within, body-legal, body-statement}
 use borrow.Author.Needs.{needs}
 use Rattle.oldest.proofs.waiting_ready.Statement.{statement}
 use Rattle.oldest.proofs.waiting_ready.Tie as tie
@@ -28,7 +27,7 @@ part-ready-end : tie.Need-part-ready-end
 part-ready-end c =
     let at = c .before in
     let s = at .before .before .before in
-    omega (arith, row-within _ _ _ (s .pre .0) (s .pre .1), body-small _ _ _ (s .pre .0) (s .pre .1) _ _ (c .body-length .ensures .0) (at .body-at .ensures), at .body-at .ensures)
+    body-within _ _ _ (s .pre .0) (s .pre .1) _ _ (c .body-length .ensures .0) (at .body-at .ensures)
 
 ready-requires : tie.Need-ready-requires
 ready-requires c κs =

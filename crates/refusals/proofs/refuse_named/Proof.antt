@@ -4,7 +4,8 @@ use native.Mathlib.Omega.{arith}
 use borrow.Author.Tests.{not-true, not-false}
 use Rattle.layout.specs.States.{decode}
 use Rattle.spaces.specs.Spaces.{spacesOf, IsListed, Rising}
-use Rattle.lent.specs.Sections.{spacesLent, spaces-read, is-listed, is-rising}
+use Rattle.header.specs.Rows.{spacesLent}
+use Rattle.lent.specs.Sections.{spaces-read, is-listed, is-rising}
 use Rattle.refusals.specs.Naming.{let-in, found-closed, found-denied}
 use borrow.Author.Needs.{needs}
 use Rattle.refusals.proofs.refuse_named.Statement.{statement}

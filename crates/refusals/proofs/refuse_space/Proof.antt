@@ -4,7 +4,8 @@ use mathlib.Core.Path.{_≡_}
 use borrow.Author.Tests.{not-true, not-false}
 use Rattle.layout.specs.States.{decode}
 use Rattle.spaces.specs.Spaces.{spacesOf, IsListed, Rising}
-use Rattle.lent.specs.Sections.{spacesLent, spaces-read, is-listed, is-rising}
+use Rattle.header.specs.Rows.{spacesLent}
+use Rattle.lent.specs.Sections.{spaces-read, is-listed, is-rising}
 use Rattle.refusals.specs.Naming.{one-closed, one-denied, one-used, one-free}
 use borrow.Author.Needs.{needs}
 use Rattle.refusals.proofs.refuse_space.Statement.{statement}

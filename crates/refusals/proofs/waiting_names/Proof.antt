@@ -1,7 +1,6 @@
 -- `refusals::waiting_names` meets its contract. Assumes nothing.
-use native.Mathlib.Omega.{arith}
 use Rattle.queue.specs.PlaceLaws.{waitingNth}
-use Rattle.lent.specs.Bodies.{row-within, body-small, body-legal, body-statement}
+use Rattle.queue.specs.Bodies.{row-within, body-within, body-legal, body-statement}
 use Rattle.refusals.specs.Naming.{naming-is}
 use borrow.Author.Needs.{needs}
 use Rattle.refusals.proofs.waiting_names.Statement.{statement}
@@ -26,7 +25,7 @@ part-some-named-end : tie.Need-part-some-named-end
 part-some-named-end c =
     let at = c .before in
     let s = at .before .before .before in
-    omega (arith, row-within _ _ _ (s .pre .0) (s .pre .1), body-small _ _ _ (s .pre .0) (s .pre .1) _ _ (c .body-length .ensures .0) (at .body-at .ensures), at .body-at .ensures)
+    body-within _ _ _ (s .pre .0) (s .pre .1) _ _ (c .body-length .ensures .0) (at .body-at .ensures)
 
 some-named-requires : tie.Need-some-named-requires
 some-named-requires c κs =

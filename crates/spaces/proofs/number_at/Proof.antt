@@ -4,11 +4,14 @@ use borrow.Author.Needs.{needs}
 use Rattle.spaces.proofs.number_at.Statement.{statement}
 use Rattle.spaces.proofs.number_at.Tie as tie
 
-field-requires : tie.Need-field-requires
-field-requires c κs = search needs
+mul-space-number : tie.Need-mul-space-number
+mul-space-number c = search needs
+
+space-number-requires : tie.Need-space-number-requires
+space-number-requires c κs = search needs
 
 returns : tie.Need-returns
-returns c = number-at _ _ _ _ (c .before .before .pre .1) (c .field .ensures)
+returns c = number-at _ _ _ _ (c .before .before .pre .1) (c .space-number .ensures)
 
 pub number-at-spec : {M : Type 1} → statement M
-number-at-spec = tie.close (tie.spec field-requires returns)
+number-at-spec = tie.close (tie.spec mul-space-number space-number-requires returns)

@@ -5,11 +5,12 @@ use lib.Dec.{T, lit≤}
 use lib.Pow.{areBytes}
 use borrow.Author.Tests.{not-true, not-false}
 use Rattle.basis.specs.Logic.{true-is}
-use Rattle.basis.specs.Sizes.{headerSize, spacesSize, tuplesSize, waitingAllSize, spacesAt, tuplesAt, waitingAt, spacesEnd, tuplesEnd, waitingEnd}
+use Rattle.basis.specs.Sizes.{headerSize, spacesEnd, tuplesEnd, waitingEnd}
 use Rattle.sections.specs.RowLaws.{bytes-of}
 use Rattle.spaces.specs.Spaces.{spacesOf, IsListed, Rising}
-use Rattle.validation.specs.Validation.{spacesIn}
-use Rattle.validation.specs.StateLaws.{Counts, counts-of, within, section-long, no-spaces, no-tuples, no-queue, then-waits, listed, queued}
+use Rattle.header.specs.Rows.{spacesPart, tuplesPart, waitingPart, spacesLent}
+use Rattle.header.specs.WholeLaws.{part-long}
+use Rattle.validation.specs.StateLaws.{Counts, counts-of, within, no-spaces, no-tuples, no-queue, then-waits, listed, queued}
 use Rattle.validation.proofs.contents_ok.Statement.{statement}
 use Rattle.validation.proofs.contents_ok.Tie as tie
 
@@ -32,7 +33,7 @@ module _ (c : tie.Else1) where
   abbrev count : tie.After-space-count
   count = next .before .before
 
-  are-listed : IsListed (spacesIn (start count .args .b .now)) (count .space-count .result) × Rising (spacesOf (spacesIn (start count .args .b .now)) (count .space-count .result))
+  are-listed : IsListed (spacesLent (start count .args .b .now)) (count .space-count .result) × Rising (spacesOf (spacesLent (start count .args .b .now)) (count .space-count .result))
   are-listed = listed (start count .args .b .now) (bytes count) (start count .pre .0) _ _ (true-is _ (sym (c .before .are-legal .ensures) ∙ not-false _ (c .if1 .left))) (count .space-count .ensures .0) (counts count)
 
 -- the tuples are legal
@@ -67,7 +68,7 @@ are-legal-requires : tie.Need-are-legal-requires
 are-legal-requires c κs =
     let n = c .before .before in
     let s = start n in
-    (section-long (s .args .b .now) spacesSize spacesAt (within (s .args .b .now) spacesEnd (s .pre .0) tt), omega (arith, n .space-count .ensures .0, counts n .spaces))
+    (part-long (s .args .b .now) spacesPart (within (s .args .b .now) spacesEnd (s .pre .0) tt), omega (arith, n .space-count .ensures .0, counts n .spaces))
 
 returns : tie.Need-returns
 returns c =
@@ -93,7 +94,7 @@ tuples-ok-requires c κs =
     let one = m .before in
     let n = count one in
     let s = start n in
-    (section-long (s .args .b .now) tuplesSize tuplesAt (within (s .args .b .now) tuplesEnd (s .pre .0) tt), omega (arith, m .tuple-count .ensures .0, counts n .tuples), are-listed one .0, are-listed one .1)
+    (part-long (s .args .b .now) tuplesPart (within (s .args .b .now) tuplesEnd (s .pre .0) tt), omega (arith, m .tuple-count .ensures .0, counts n .tuples), are-listed one .0, are-listed one .1)
 
 returns-2 : tie.Need-returns-2
 returns-2 c =
@@ -119,7 +120,7 @@ is-queue-requires c κs =
     let k = c .before in
     let n = count (first (k .before)) in
     let s = start n in
-    (section-long (s .args .b .now) waitingAllSize waitingAt (within (s .args .b .now) waitingEnd (s .pre .0) tt), omega (arith, k .waiting-count .ensures .0, counts n .waiting))
+    (part-long (s .args .b .now) waitingPart (within (s .args .b .now) waitingEnd (s .pre .0) tt), omega (arith, k .waiting-count .ensures .0, counts n .waiting))
 
 returns-3 : tie.Need-returns-3
 returns-3 c =
@@ -147,7 +148,7 @@ waits-ok-requires c κs =
       queued (s .args .b .now) (bytes n) (s .pre .0) _ (omega (arith, k .waiting-count .ensures .0, counts n .waiting)) (true-is _ (sym (three .before .is-queue .ensures) ∙ not-false _ (three .if3 .left))),
       are-listed one .0,
       are-listed one .1,
-      section-long (s .args .b .now) tuplesSize tuplesAt (within (s .args .b .now) tuplesEnd (s .pre .0) tt),
+      part-long (s .args .b .now) tuplesPart (within (s .args .b .now) tuplesEnd (s .pre .0) tt),
       omega (arith, tuples two .tuple-count .ensures .0, counts n .tuples),
     )
 

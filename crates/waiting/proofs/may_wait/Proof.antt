@@ -1,12 +1,10 @@
 -- `waiting::may_wait` meets its contract. Assumes nothing.
 use mathlib.Core.Path.{_∙_}
-use native.Mathlib.Omega.{arith}
 use borrow.Author.Tests.{not-true, not-false}
-use Rattle.sections.specs.Shapes.{holds-length}
 use Rattle.layout.specs.States.{noStatement}
-use Rattle.queue.specs.Queue.{waitingShape}
 use Rattle.queue.specs.PlaceLaws.{waitingNth}
-use Rattle.waiting.specs.WaitLaws.{part-room, part-legal, part-statement, no-host, no-space, then-can}
+use Rattle.queue.specs.Bodies.{row-within, body-within, body-legal, body-statement}
+use Rattle.waiting.specs.WaitLaws.{no-host, no-space, then-can}
 use borrow.Author.Needs.{needs}
 use Rattle.waiting.proofs.may_wait.Statement.{statement}
 use Rattle.waiting.proofs.may_wait.Tie as tie
@@ -28,7 +26,7 @@ body-at-requires c κs = search needs
 body-length-requires : tie.Need-body-length-requires
 body-length-requires c κs =
     let s = c .before .before .before .before .before .before in
-    omega (arith, s .pre .0 .few, s .pre .1, holds-length waitingShape _ _ _ (s .pre .0))
+    row-within _ _ _ (s .pre .0) (s .pre .1)
 
 process-requires : tie.Need-process-requires
 process-requires c κs = search needs
@@ -51,13 +49,13 @@ part-some-named-end : tie.Need-part-some-named-end
 part-some-named-end c =
     let size = c .before in
     let s = first c in
-    part-room _ _ _ _ _ (s .pre .0) (s .pre .1) (size .before .body-at .ensures) (size .body-length .ensures .0)
+    body-within _ _ _ (s .pre .0) (s .pre .1) _ _ (size .body-length .ensures .0) (size .before .body-at .ensures)
 
 some-named-requires : tie.Need-some-named-requires
 some-named-requires c κs =
     let size = c .before .before in
     let s = first (c .before) in
-    (part-legal _ _ _ _ _ (s .pre .0) (s .pre .1) (size .before .body-at .ensures) (size .body-length .ensures .0), s .pre .2, s .pre .3)
+    (body-legal _ _ _ (s .pre .0) (s .pre .1) _ _ (size .body-length .ensures .0) (size .before .body-at .ensures), s .pre .2, s .pre .3)
 
 returns-2 : tie.Need-returns-2
 returns-2 c =
@@ -68,7 +66,7 @@ returns-2 c =
     let else = size .before .before in
     let up = else .before in
     no-space _ _ _ _ (waitingNth (s .args .waiting .now) (s .args .n) (s .args .i)) _ _ (up .before .host .ensures .0) (up .host-up .ensures) (not-false _ (else .if1 .left)) (process .process .ensures)
-    (part-statement (s .args .waiting .now) (s .args .n) (s .args .i) _ _ (s .pre .0) (s .pre .1) (size .before .body-at .ensures) (size .body-length .ensures .0)) _ (named .some-named .ensures) (c .if2 .taken)
+    (body-statement (s .args .waiting .now) (s .args .n) (s .args .i) (s .pre .0) (s .pre .1) _ _ (size .body-length .ensures .0) (size .before .body-at .ensures)) _ (named .some-named .ensures) (c .if2 .taken)
 
 add-can-wait : tie.Need-add-can-wait
 add-can-wait c = search needs
@@ -84,14 +82,14 @@ part-can-wait-end c =
     let process = c .before .before .before in
     let size = process .before in
     let s = first process in
-    part-room _ _ _ _ _ (s .pre .0) (s .pre .1) (size .before .body-at .ensures) (size .body-length .ensures .0)
+    body-within _ _ _ (s .pre .0) (s .pre .1) _ _ (size .body-length .ensures .0) (size .before .body-at .ensures)
 
 can-wait-requires : tie.Need-can-wait-requires
 can-wait-requires c κs =
     let process = c .before .before .before .before in
     let size = process .before in
     let s = first process in
-    part-legal _ _ _ _ _ (s .pre .0) (s .pre .1) (size .before .body-at .ensures) (size .body-length .ensures .0)
+    body-legal _ _ _ (s .pre .0) (s .pre .1) _ _ (size .body-length .ensures .0) (size .before .body-at .ensures)
 
 returns-3 : tie.Need-returns-3
 returns-3 c =
@@ -104,7 +102,7 @@ returns-3 c =
     let up = else .before in
     c .can-wait .ensures
     ∙ then-can _ _ _ _ (waitingNth (s .args .waiting .now) (s .args .n) (s .args .i)) _ _ (up .before .host .ensures .0) (up .host-up .ensures) (not-false _ (else .if1 .left)) (process .process .ensures)
-    (part-statement (s .args .waiting .now) (s .args .n) (s .args .i) _ _ (s .pre .0) (s .pre .1) (size .before .body-at .ensures) (size .body-length .ensures .0)) _ (named .some-named .ensures) (shown .if2 .left)
+    (body-statement (s .args .waiting .now) (s .args .n) (s .args .i) (s .pre .0) (s .pre .1) _ _ (size .body-length .ensures .0) (size .before .body-at .ensures)) _ (named .some-named .ensures) (shown .if2 .left)
 
 pub may-wait-spec : {M : Type 1} → statement M
 may-wait-spec =

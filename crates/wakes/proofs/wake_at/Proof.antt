@@ -6,7 +6,6 @@ use mathlib.Core.List.{List}
 use lib.ListN.{length, take}
 use lib.Seq.{length-take-le}
 use borrow.Author.Needs.{needs}
-use Rattle.basis.specs.Sizes.{mostBody}
 use Rattle.layout.specs.States.{decode}
 use Rattle.header.specs.StoredLaws.{said}
 use Rattle.running.specs.Executed.{MayRun}

@@ -8,8 +8,9 @@ use Rattle.layout.specs.States.{decode}
 use Rattle.sections.specs.Shapes.{holds-length}
 use Rattle.tuples.specs.Section.{tupleShape, tuplesOf, Section}
 use Rattle.queue.specs.Queue.{waitingOf}
-use Rattle.lent.specs.Sections.{queueLent, queue-read, is-queued}
-use Rattle.state.specs.Lent.{tuplesLent, tuples-read, is-section}
+use Rattle.header.specs.Rows.{queueLent, tuplesLent}
+use Rattle.lent.specs.Sections.{queue-read, is-queued}
+use Rattle.state.specs.Lent.{tuples-read, is-section}
 use Rattle.wakes.specs.Turns.{WokenAt, wakes-none, wakes-at, wakes-some}
 use Rattle.wakes.proofs.wake_one.Statement.{statement}
 use Rattle.wakes.proofs.wake_one.Tie as tie

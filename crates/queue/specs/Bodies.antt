@@ -34,6 +34,10 @@ module _ (p : List ℕ) (n i : ℕ) (h : IsQueued p n) (below : i < n) where
   module _ (size from : ℕ) (e : size ≡ bodySize p i) (f : from ≡ bodyPlace i) where
     pub body-small : size ≤ mostBody
     body-small = omega (arith, e, stands p n i h below .size)
+
+    -- stands within the section
+    pub body-within : from + size ≤ length p
+    body-within = omega (arith, body-small, row-within)
 
     body-lent : take (from + size - from) (drop from p) ≡ bodyOf p i
     body-lent =
