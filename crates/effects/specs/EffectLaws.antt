@@ -2,24 +2,17 @@
 use mathlib.Core.Path.{_≡_, refl, ap, _∙_}
 use Prim.Native.Nat.{ℕ}
 use mathlib.Core.Bool.{Bool}
-use mathlib.Core.List.{List, [], _∷_, flatMap, append-nil}
+use mathlib.Core.List.{List, []}
 use Rattle.basis.specs.Numbers.{count, bits}
 use Rattle.basis.specs.Sizes.{hosts}
 use Rattle.model.specs.Value.{Value}
-use Rattle.model.specs.Run.{Run, withMonitors, nextMonitor, Reply, Turn}
+use Rattle.model.specs.Run.{Run, withMonitors, nextMonitor}
 use Rattle.model.specs.Step.{Request, recover, crash, monitor, openSpace, closeSpace, askingHost, askingProcess, plainReply, inVariable0, replied, recovered, crashed, opened, closed, effect}
-use Rattle.layout.specs.Replies.{replyBytes, repliesBytes}
 use Rattle.layout.specs.States.{decode}
 use Rattle.replies.specs.Written.{reply, Wrote}
+use Rattle.replies.specs.TurnLaws.{turned-one}
 use Rattle.layout.specs.Stored.{Stored, Turned}
 use Rattle.header.specs.StoredLaws.{stored-says}
-
--- a turn of one reply
-one-reply : (t : Turn) (x : Reply) (b entry exit : List ℕ) (n : ℕ) → t .replies ≡ x ∷ [] → Stored b (t .run) → Wrote x entry exit n → Turned t entry b exit n
-unfolding repliesBytes flatMap
-one-reply t x b entry exit n e k w =
-    let same : repliesBytes (t .replies) ≡ replyBytes x = ap repliesBytes e ∙ append-nil (replyBytes x) in
-    record { stored = k; bytes = rw same (w .bytes); number = rw same (w .number) }
 
 -- the reply at the position and with the values of the run after the effect
 module _ (b entry exit : List ℕ) (s : Run) (host process n : ℕ) (k : Stored b s) where
@@ -28,8 +21,7 @@ module _ (b entry exit : List ℕ) (s : Run) (host process n : ℕ) (k : Stored 
   unfolding replied plainReply
   replied-as q vs ws position eh ep el ev w =
       let e : position ≡ s .last = el ∙ ap (λ (r : Run). r .last) (stored-says b s k) in
-      one-reply (replied s q vs) (reply (s .last) (askingHost q) (askingProcess q) 0 0 vs) b entry exit n refl k
-      (rw (e, eh, ep, ev) at w)
+      turned-one s (reply (s .last) (askingHost q) (askingProcess q) 0 0 vs) b entry exit n k (rw (e, eh, ep, ev) at w)
 
 -- RV
 pub recover-answered : (b b′ entry exit : List ℕ) (h n : ℕ) → Stored b′ (recovered (decode b) h)

@@ -1,4 +1,4 @@
--- The state buffer as a list of parts: the rows of the header, its unused bytes, and the sections; a row written, a section lent. Assumes nothing.
+-- The state buffer as a list of parts: the rows of the header, its unused bytes, and the sections; a row or the mark written, a section lent. Assumes nothing.
 use Prim.Native.Nat.{ℕ, _-_}
 use mathlib.Core.List.{List, [], _∷_}
 use lib.ListN.{length, take, drop, getD}

@@ -1,4 +1,4 @@
--- When bytes are those of the run that they say: mark and unused bytes of the header are, and each section is. Assumes nothing.
+-- A section as it is lent: what it says, its length and its bytes. When bytes are those of the run that they say: mark and unused bytes of the header are, and each section is. Assumes nothing.
 use mathlib.Core.Path.{_≡_, refl, sym, ap, _∙_}
 use Prim.Native.Nat.{ℕ, zero, suc, _+_, _-_, _*_, _^_, _≤_, _<_}
 use native.Mathlib.Omega.{arith}

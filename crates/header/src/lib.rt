@@ -1,4 +1,4 @@
-// The header of a state, row by row: "last position taken (4), hosts-up mask (2, bit h for host h), monitors, next space number (2),
+// The header of a state, row by row: "`TS`, last position taken (4), hosts-up mask (2, bit h for host h), monitors, next space number (2),
 // counts of spaces, tuples (2), waiting". Only here is it said where a row stands.
 ghost use mathlib.Core.Path.{_≡_};
 ghost use Prim.Native.Nat.{_≤_, _<_};

@@ -24,7 +24,7 @@ use Rattle.sections.specs.Rows.{Rows}
 use Rattle.sections.specs.RowLaws.{pieces-at}
 use Rattle.sections.specs.Loops.{keep-yes, keep-no, Sifted}
 use Rattle.sections.specs.Shapes.{items-length, holds-length, holds-count, holds-keep}
-use Rattle.sections.specs.Fronts.{Front, front-none, front-more, holds-added}
+use Rattle.sections.specs.FirstRows.{FirstRows, rows-none, rows-one-more, holds-added}
 use Rattle.tuples.specs.Section.{Legal, tupleShape, entryBytes, entryAt, tupleAt, tuplesOf, Holds, Section}
 use Rattle.tuples.specs.SectionLaws.{read-take, entry-is, space-set}
 use Rattle.matching.specs.declared.Template.{Template}
@@ -78,16 +78,16 @@ over-inner d e f at s n t m room enough small all one two =
     two ∙ ap (λ (l : List ℕ). over l at t m) (one ∙ over-split d at s n) ∙ ap (λ (k : ℕ). over (a ++ (b ++ c)) k t m) (sym (add-zero at)) ∙ past
     ∙ ap (λ (l : List ℕ). a ++ l) front ∙ sym (over-split d at (over s 0 t m) n ∙ ap (λ (l : List ℕ). a ++ (l ++ c)) same)
 
-pub gather-none : (t : Template) (to : ℕ) (p b : List ℕ) (n : ℕ) → Front tupleShape b 0 (relocated t to (take 0 (tuplesOf p n)))
-gather-none t to p b n = front-none tupleShape b (relocated t to []) (unfold relocated keep in refl)
+pub gather-none : (t : Template) (to : ℕ) (p b : List ℕ) (n : ℕ) → FirstRows tupleShape b 0 (relocated t to (take 0 (tuplesOf p n)))
+gather-none t to p b n = rows-none tupleShape b (relocated t to []) (unfold relocated keep in refl)
 
-module _ (t : Template) (to : ℕ) (p b : List ℕ) (n h i : ℕ) (s : Section p n) (k : i < n) (f : Front tupleShape b h (relocated t to (take i (tuplesOf p n)))) where
-  pub gather-no : selectsBy t (tupleAt p i) ≡ false → Front tupleShape b h (relocated t to (take (i + 1) (tuplesOf p n)))
+module _ (t : Template) (to : ℕ) (p b : List ℕ) (n h i : ℕ) (s : Section p n) (k : i < n) (f : FirstRows tupleShape b h (relocated t to (take i (tuplesOf p n)))) where
+  pub gather-no : selectsBy t (tupleAt p i) ≡ false → FirstRows tupleShape b h (relocated t to (take (i + 1) (tuplesOf p n)))
   unfolding relocated
   gather-no e = rw (read-take p n i k, keep-no (selectsBy t) (take i (tuplesOf p n)) (tupleAt p i) e) f
 
   pub gather-yes : (c : List ℕ) → (h + 1) * tupleSize ≤ length b → selectsBy t (tupleAt p i) ≡ true
-      → c ≡ over b (h * tupleSize) (over (drop (i * tupleSize) p) 0 (bigEndian spaceWidth to) spaceWidth) tupleSize → Front tupleShape c (h + 1) (relocated t to (take (i + 1) (tuplesOf p n)))
+      → c ≡ over b (h * tupleSize) (over (drop (i * tupleSize) p) 0 (bigEndian spaceWidth to) spaceWidth) tupleSize → FirstRows tupleShape c (h + 1) (relocated t to (take (i + 1) (tuplesOf p n)))
   unfolding relocated
   gather-yes c room e stored =
       let ts : List Tuple = take i (tuplesOf p n) in
@@ -102,12 +102,12 @@ module _ (t : Template) (to : ℕ) (p b : List ℕ) (n h i : ℕ) (s : Section p
       let new : take tupleSize (over d 0 x spaceWidth) ≡ entryBytes (inSpace to (tupleAt p i)) =
       take-over-past d 0 x spaceWidth (omega arith) (omega arith) tupleSize (omega arith) long ∙ ap (λ (r : List ℕ). over r 0 x spaceWidth) is ∙ space-set (tupleAt p i) to in
       rw (read-take p n i k, keep-yes (selectsBy t) ts (tupleAt p i) e, map-append (inSpace to) (keep (selectsBy t) ts) (tupleAt p i ∷ []))
-      (front-more tupleShape b c (over d 0 x spaceWidth) h (relocated t to ts) (inSpace to (tupleAt p i)) f room (omega arith) new stored)
+      (rows-one-more tupleShape b c (over d 0 x spaceWidth) h (relocated t to ts) (inSpace to (tupleAt p i)) f room (omega arith) new stored)
 
-pub gather-all : (t : Template) (to : ℕ) (p b : List ℕ) (n h i : ℕ) → n ≤ i → Front tupleShape b h (relocated t to (take i (tuplesOf p n))) → Front tupleShape b h (relocated t to (tuplesOf p n))
+pub gather-all : (t : Template) (to : ℕ) (p b : List ℕ) (n h i : ℕ) → n ≤ i → FirstRows tupleShape b h (relocated t to (take i (tuplesOf p n))) → FirstRows tupleShape b h (relocated t to (tuplesOf p n))
 gather-all t to p b n h i past f =
     let all : take i (tuplesOf p n) ≡ tuplesOf p n = let l = items-length tupleShape p n in take-all i (tuplesOf p n) (omega arith) in
-    subst (λ (ts : List Tuple). Front tupleShape b h (relocated t to ts)) all f
+    subst (λ (ts : List Tuple). FirstRows tupleShape b h (relocated t to ts)) all f
 
 -- ---- put together
 
@@ -120,11 +120,11 @@ relocated-length : (t : Template) (to : ℕ) (ts : List Tuple) → length (other
 unfolding others relocated
 relocated-length t to ts = rw (length-map (keep (selectsBy t) ts) (inSpace to)) (keep-length (selectsBy t) ts)
 
-pub moved-count : (t : Template) (to : ℕ) (p a b : List ℕ) (n m h : ℕ) → Holds a m (others t (tuplesOf p n)) → Front tupleShape b h (relocated t to (tuplesOf p n)) → m + h ≡ n
+pub moved-count : (t : Template) (to : ℕ) (p a b : List ℕ) (n m h : ℕ) → Holds a m (others t (tuplesOf p n)) → FirstRows tupleShape b h (relocated t to (tuplesOf p n)) → m + h ≡ n
 moved-count t to p a b n m h o f = omega (arith, holds-count tupleShape a m (others t (tuplesOf p n)) o, f .count, relocated-length t to (tuplesOf p n), items-length tupleShape p n)
 
 -- move
-pub moved-is : (t : Template) (to : ℕ) (p a q b : List ℕ) (n m h : ℕ) → Section p n → to < spaceNumbers → Holds a m (others t (tuplesOf p n)) → Front tupleShape b h (relocated t to (tuplesOf p n))
+pub moved-is : (t : Template) (to : ℕ) (p a q b : List ℕ) (n m h : ℕ) → Section p n → to < spaceNumbers → Holds a m (others t (tuplesOf p n)) → FirstRows tupleShape b h (relocated t to (tuplesOf p n))
     → q ≡ over a (m * tupleSize) b (h * tupleSize) → Holds q n (moved (selectsBy t) to (tuplesOf p n))
 unfolding moved others relocated
 moved-is t to p a q b n m h s small o f stored =
@@ -132,7 +132,7 @@ moved-is t to p a q b n m h s small o f stored =
     rw e at (holds-added tupleShape a q b m h (others t (tuplesOf p n)) (relocated t to (tuplesOf p n)) o (omega (arith, s .few)) (relocated-legal t to (tuplesOf p n) small (s .lawful)) f stored)
 
 -- copy
-module _ (t : Template) (to : ℕ) (p b : List ℕ) (n h : ℕ) (s : Section p n) (small : to < spaceNumbers) (f : Front tupleShape b h (relocated t to (tuplesOf p n))) where
+module _ (t : Template) (to : ℕ) (p b : List ℕ) (n h : ℕ) (s : Section p n) (small : to < spaceNumbers) (f : FirstRows tupleShape b h (relocated t to (tuplesOf p n))) where
   pub copied-full : mostTuples - n < h → Copies Full p p n (relocated t to (tuplesOf p n))
   copied-full k = (omega (arith, f .count, s .few), refl)
 

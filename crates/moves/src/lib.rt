@@ -6,7 +6,7 @@ ghost use Rattle.basis.specs.Numbers.{bigEndian};
 ghost use Rattle.basis.specs.Sizes.{spaceWidth, spaceNumbers, mostFields, tupleSize, tuplesSize};
 ghost use Rattle.model.specs.Execution.{moved};
 ghost use Rattle.words.specs.Over.{over};
-ghost use Rattle.sections.specs.Fronts.{Front};
+ghost use Rattle.sections.specs.FirstRows.{FirstRows};
 ghost use Rattle.tuples.specs.Section.{tupleShape, tupleAt, tuplesOf, Holds, Section};
 ghost use Rattle.matching.specs.Hits.{selectsBy};
 ghost use Rattle.moves.specs.Moves.{others, relocated, Copies};
@@ -61,7 +61,7 @@ fn hold(held: &mut [u8], h: usize, tuples: &[u8], i: usize, to: u16)
 // The tuples that the template selects, in their order and in the space `to`, as the first rows of `held`; how many.
 fn gather(held: &mut [u8], tuples: &[u8], n: usize, template: Template, to: u16) -> usize
     requires { ⌜ (length (now held) ≡ tuplesSize) × Section (now tuples) n × (template .count ≤ mostFields) ⌝ }
-    ensures { λ r. ⌜ Front tupleShape (now (held .exit)) r (relocated template to (tuplesOf (now (tuples .entry)) n)) ⌝ }
+    ensures { λ r. ⌜ FirstRows tupleShape (now (held .exit)) r (relocated template to (tuplesOf (now (tuples .entry)) n)) ⌝ }
 {
     let mut h = 0;
     let mut i = 0;

@@ -1,22 +1,22 @@
--- What is asked of a space that a body names. Assumes nothing.
+-- Whether a space passes a test. Assumes nothing.
 use mathlib.Core.Path.{_≡_}
 use Prim.Native.Nat.{ℕ}
 use mathlib.Core.Bool.{Bool, not, _&&_}
 use mathlib.Core.List.{List}
 use lib.Dec.{eqb}
 use Rattle.model.specs.Run.{Space, isOpen, isDenied}
-use Rattle.names.specs.declared.Which.{Which}
-use Rattle.names.specs.declared.Which.the-variants.{Closed, Shut, Same}
+use Rattle.names.specs.declared.SpaceTest.{SpaceTest}
+use Rattle.names.specs.declared.SpaceTest.the-variants.{Closed, Shut, Same}
 
 -- Closed: "a named space not open"; Shut: one that is not open to a process; Same: the space of a number
-unfoldable pub asks : List Space → Which → ℕ → Bool
+unfoldable pub asks : List Space → SpaceTest → ℕ → Bool
 asks ss Closed n = not (isOpen ss n)
 asks ss (Shut p) n = not (isOpen ss n && not (isDenied ss p n))
 asks ss (Same k) n = eqb k n
 
 -- ---- what the answers of the code come to
 
-module _ (ss : List Space) (what : Which) (n : ℕ) where
+module _ (ss : List Space) (what : SpaceTest) (n : ℕ) where
   pub asks-closed : (t : Bool) → t ≡ isOpen ss n → what ≡ Closed → not t ≡ asks ss what n
   unfolding asks
   asks-closed t e q = rw (e, q)

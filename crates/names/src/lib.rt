@@ -1,4 +1,4 @@
-// The spaces that a body names: whether one of them is of those that are looked for.
+// The spaces that a body names: whether one of them passes a test.
 ghost use mathlib.Core.Path.{_≡_};
 ghost use lib.Dec.{T};
 ghost use Rattle.basis.specs.Lists.{any};
@@ -13,46 +13,46 @@ use statements::Operation;
 use statements::TWO_SPACES;
 use statements::read_operation;
 
-// Which spaces are looked for: those that are not open, not open to a process, or that of a number.
-pub enum Which {
+// What a space is tested for: that it is not open, not open to a process, or that of a number.
+pub enum SpaceTest {
     Closed,
     Shut(u16),
     Same(u16),
 }
 
-// Whether a space is such a one.
-fn is_such(spaces: &[u8], n: usize, what: Which, space: u16) -> bool
+// Whether a space passes.
+fn passes(spaces: &[u8], n: usize, what: SpaceTest, space: u16) -> bool
     requires { ⌜ IsListed (now spaces) n × Rising (spacesOf (now spaces) n) ⌝ }
     ensures { λ r. ⌜ r ≡ asks (spacesOf (now (spaces .entry)) n) what space ⌝ }
 {
     match what {
-        Which::Closed => !spaces::is_open(spaces, n, space),
-        Which::Shut(process) => !spaces::is_open_to(spaces, n, space, process),
-        Which::Same(number) => number == space,
+        SpaceTest::Closed => !spaces::is_open(spaces, n, space),
+        SpaceTest::Shut(process) => !spaces::is_open_to(spaces, n, space, process),
+        SpaceTest::Same(number) => number == space,
     }
 }
 
 // ---- from operation to operation
 
-// Whether an operation names such a space.
-fn operation_names(operation: Operation, spaces: &[u8], n: usize, what: Which) -> bool
+// Whether an operation names a space that passes.
+fn operation_names(operation: Operation, spaces: &[u8], n: usize, what: SpaceTest) -> bool
     requires { ⌜ IsListed (now spaces) n × Rising (spacesOf (now spaces) n) ⌝ }
     ensures { λ r. ⌜ r ≡ any (asks (spacesOf (now (spaces .entry)) n) what) (spacesIn (operationIs operation)) ⌝ }
 {
     if operation.code == 0 {
         return false;
     }
-    if is_such(spaces, n, what, operation.from) {
+    if passes(spaces, n, what, operation.from) {
         return true;
     }
     if operation.code < TWO_SPACES {
         return false;
     }
-    is_such(spaces, n, what, operation.to)
+    passes(spaces, n, what, operation.to)
 }
 
-// Past an operation: the position after it; 0 where it names such a space.
-fn pass_operation(body: &[u8], at: usize, spaces: &[u8], n: usize, what: Which) -> usize
+// Past an operation: the position after it; 0 where it names a space that passes.
+fn pass_operation(body: &[u8], at: usize, spaces: &[u8], n: usize, what: SpaceTest) -> usize
     requires { ⌜ IsListed (now spaces) n × Rising (spacesOf (now spaces) n) ⌝ }
     ensures { λ r. ⌜ r ≡ passOperation (asks (spacesOf (now (spaces .entry)) n) what) (now (body .entry)) at ⌝ }
 {
@@ -65,7 +65,7 @@ fn pass_operation(body: &[u8], at: usize, spaces: &[u8], n: usize, what: Which) 
 }
 
 // Past as many operations as the byte at a position says.
-fn pass_operations(body: &[u8], at: usize, spaces: &[u8], n: usize, what: Which) -> usize
+fn pass_operations(body: &[u8], at: usize, spaces: &[u8], n: usize, what: SpaceTest) -> usize
     requires { ⌜ IsListed (now spaces) n × Rising (spacesOf (now spaces) n) ⌝ }
     ensures { λ r. ⌜ r ≡ passCounted (passOperation (asks (spacesOf (now (spaces .entry)) n) what) (now (body .entry))) (now (body .entry)) at ⌝ }
 {
@@ -86,7 +86,7 @@ fn pass_operations(body: &[u8], at: usize, spaces: &[u8], n: usize, what: Which)
 }
 
 // Past a branch: its guard, then its body.
-fn pass_branch(body: &[u8], at: usize, spaces: &[u8], n: usize, what: Which) -> usize
+fn pass_branch(body: &[u8], at: usize, spaces: &[u8], n: usize, what: SpaceTest) -> usize
     requires { ⌜ IsListed (now spaces) n × Rising (spacesOf (now spaces) n) ⌝ }
     ensures { λ r. ⌜ r ≡ passBranch (asks (spacesOf (now (spaces .entry)) n) what) (now (body .entry)) at ⌝ }
 {
@@ -97,8 +97,8 @@ fn pass_branch(body: &[u8], at: usize, spaces: &[u8], n: usize, what: Which) -> 
     pass_operations(body, end, spaces, n, what)
 }
 
-// Whether a legal body names such a space, in any operation of any branch.
-pub fn some_named(body: &[u8], spaces: &[u8], n: usize, what: Which) -> bool
+// Whether a legal body names a space that passes, in any operation of any branch.
+pub fn some_named(body: &[u8], spaces: &[u8], n: usize, what: SpaceTest) -> bool
     requires { ⌜ T (legalBody (now body)) × IsListed (now spaces) n × Rising (spacesOf (now spaces) n) ⌝ }
     ensures { λ r. ⌜ r ≡ any (asks (spacesOf (now (spaces .entry)) n) what) (spacesNamed (statementOf (now (body .entry)))) ⌝ }
 {

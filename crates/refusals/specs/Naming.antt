@@ -17,13 +17,13 @@ use Rattle.order.specs.Refusal.{refusal, closing}
 use Rattle.order.specs.RefusalLaws.{stops, goes, all-open, some-closed, some-denied, close-closed, close-denied, close-used, close-unused}
 use Rattle.names.specs.Asks.{asks}
 use Rattle.names.specs.Head.{body-head, body-host}
-use Rattle.names.specs.declared.Which.{Which}
-use Rattle.names.specs.declared.Which.the-variants.{Closed, Shut, Same}
+use Rattle.names.specs.declared.SpaceTest.{SpaceTest}
+use Rattle.names.specs.declared.SpaceTest.the-variants.{Closed, Shut, Same}
 
 -- ---- 10 and 11 of the spaces that are named, as the code asks for them in the section's spaces
 
 module _ (s : Run) (p : ℕ) (ns : List ℕ) (ss : List Space) (same : ss ≡ s .spaces) where
-  asked : (what : Which) (t u : Bool) → t ≡ any (asks ss what) ns → t ≡ u → any (asks (s .spaces) what) ns ≡ u
+  asked : (what : SpaceTest) (t u : Bool) → t ≡ any (asks ss what) ns → t ≡ u → any (asks (s .spaces) what) ns ≡ u
   asked what t u e f = ap (λ (l : List Space). any (asks l what) ns) (sym same) ∙ sym e ∙ f
 
   pub let-in : (t : Bool) → t ≡ any (asks ss (Shut p)) ns → t ≡ false → 0 ≡ refusal (access s p ns)

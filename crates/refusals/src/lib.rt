@@ -15,7 +15,7 @@ ghost use Rattle.spaces.specs.Spaces.{spacesOf, IsListed, Rising};
 ghost use Rattle.queue.specs.Queue.{waitingOf, IsQueued};
 ghost use Rattle.queue.specs.PlaceLaws.{waitingNth};
 ghost use Rattle.refusals.specs.Naming.{naming};
-use names::Which;
+use names::SpaceTest;
 
 // ---- the spaces that a body names
 
@@ -29,7 +29,7 @@ fn refuse_named(state: &[u8], process: u16, body: &[u8]) -> u8
         body,
         &state[words::SPACES_AT..words::SPACES_END],
         n,
-        Which::Shut(process),
+        SpaceTest::Shut(process),
     ) {
         return 0;
     }
@@ -37,7 +37,7 @@ fn refuse_named(state: &[u8], process: u16, body: &[u8]) -> u8
         body,
         &state[words::SPACES_AT..words::SPACES_END],
         n,
-        Which::Closed,
+        SpaceTest::Closed,
     ) {
         return 10;
     }
@@ -53,7 +53,7 @@ fn waiting_names(waiting: &[u8], n: usize, i: usize, spaces: &[u8], m: usize, sp
 {
     let from = queue::body_at(i);
     let end = from + queue::body_length(waiting, i);
-    names::some_named(&waiting[from..end], spaces, m, Which::Same(space))
+    names::some_named(&waiting[from..end], spaces, m, SpaceTest::Same(space))
 }
 
 // Whether some waiting statement names a space.

@@ -2,5 +2,5 @@ pub mod Rows
 pub mod RowLaws
 pub mod Loops
 pub mod Shapes
-pub mod Fronts
+pub mod FirstRows
 pub mod Parts

@@ -21,7 +21,7 @@ use Rattle.queue.specs.PlaceLaws.{bodySize, bodyPlace}
 use Rattle.queue.specs.Legal.{sizeIn, bodyFits, rowLegal}
 use Rattle.queue.specs.LegalLaws.{part-body}
 use Rattle.names.specs.Asks.{asks}
-use Rattle.names.specs.declared.Which.the-variants.{Shut}
+use Rattle.names.specs.declared.SpaceTest.the-variants.{Shut}
 use Rattle.waiting.specs.Waits.{openToIt, mayWait}
 
 -- ---- a row

@@ -11,7 +11,7 @@ ghost use Rattle.queue.specs.Queue.{waitingOf, IsQueued};
 ghost use Rattle.queue.specs.PlaceLaws.{waitingNth};
 ghost use Rattle.queue.specs.Legal.{rowLegal, queueLegal};
 ghost use Rattle.waiting.specs.Waits.{mayWait};
-use names::Which;
+use names::SpaceTest;
 
 // ---- their section
 
@@ -67,7 +67,7 @@ fn may_wait(waiting: &[u8], n: usize, i: usize, spaces: &[u8], m: usize, up: u16
     let at = queue::body_at(i);
     let len = queue::body_length(waiting, i);
     let process = queue::process(waiting, n, i);
-    if names::some_named(&waiting[at..at + len], spaces, m, Which::Shut(process)) {
+    if names::some_named(&waiting[at..at + len], spaces, m, SpaceTest::Shut(process)) {
         return false;
     }
     guards::can_wait(&waiting[at..at + len])

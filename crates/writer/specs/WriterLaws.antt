@@ -1,4 +1,4 @@
--- "The writer" in its own words: what each answer means for the filled bytes and for the others. Assumes nothing.
+-- "The writer" in its own words: what each answer means for the filled bytes and for the others; an operation more is no branch more. Assumes nothing.
 use mathlib.Core.Path.{_≡_, refl, sym, ap, subst, _∙_}
 use mathlib.Core.Bool.{true, false}
 use mathlib.Core.Option.{Option, none, some, Option·none-ne-some, Option·some-injective}

@@ -13,7 +13,7 @@ use Rattle.model.specs.Matching.{unbound}
 use Rattle.model.specs.Execution.{performAll}
 use Rattle.tuples.specs.Section.{tupleShape, tuplesOf, Section}
 use Rattle.sections.specs.Shapes.{holds-length}
-use Rattle.sections.specs.Fronts.{over-zeros, over-section}
+use Rattle.sections.specs.FirstRows.{over-zeros, over-section}
 use Rattle.operations.specs.Performing.{Leaves}
 use Rattle.layout.specs.Stored.{statementOf}
 use Rattle.guards.specs.Branches.{body-is}

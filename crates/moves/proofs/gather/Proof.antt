@@ -4,7 +4,7 @@ use Prim.Native.Nat.{_-_, _≤_}
 use native.Mathlib.Omega.{arith}
 use lib.ListN.{length, take}
 use Rattle.sections.specs.Shapes.{holds-length}
-use Rattle.sections.specs.Fronts.{Front}
+use Rattle.sections.specs.FirstRows.{FirstRows}
 use Rattle.tuples.specs.Section.{tupleShape, tuplesOf}
 use Rattle.moves.specs.Moves.{relocated}
 use Rattle.moves.specs.MoveLaws.{gather-none, gather-no, gather-yes, gather-all}
@@ -13,7 +13,7 @@ use Rattle.moves.proofs.gather.Statement.{statement}
 use Rattle.moves.proofs.gather.Tie as tie
 
 abbrev Inv-loop : tie.InvT-loop
-Inv-loop held₀ tuples n template to h₀ i₀ held h i = (i ≤ n) × (h ≤ i) × (length held ≡ length held₀) × Front tupleShape held h (relocated template to (take i (tuplesOf tuples n)))
+Inv-loop held₀ tuples n template to h₀ i₀ held h i = (i ≤ n) × (h ≤ i) × (length held ≡ length held₀) × FirstRows tupleShape held h (relocated template to (take i (tuplesOf tuples n)))
 
 abbrev μ-loop : tie.MeasureT-loop
 μ-loop held₀ tuples n template to h₀ i₀ held h i = n - i

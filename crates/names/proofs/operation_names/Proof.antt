@@ -11,31 +11,31 @@ use Rattle.names.proofs.operation_names.Tie as tie
 returns : tie.Need-returns
 returns c = let s = c .before .before .before in names-none _ (s .args .operation) (c .if1 .taken)
 
-is-such-requires : tie.Need-is-such-requires
-is-such-requires c κs = search needs
+passes-requires : tie.Need-passes-requires
+passes-requires c κs = search needs
 
 returns-2 : tie.Need-returns-2
 returns-2 c = let k = c .before .before in
     let s = k .before .before .before in
-    names-first (asks (spacesOf (now (s .args .spaces)) (s .args .n)) (s .args .what)) (s .args .operation) (k .if1 .left) (sym (c .before .is-such .ensures) ∙ c .if2 .taken)
+    names-first (asks (spacesOf (now (s .args .spaces)) (s .args .n)) (s .args .what)) (s .args .operation) (k .if1 .left) (sym (c .before .passes .ensures) ∙ c .if2 .taken)
 
 returns-3 : tie.Need-returns-3
 returns-3 c = let m = c .before .before in
     let k = m .before .before in
     let s = k .before .before .before in
-    names-one (asks (spacesOf (now (s .args .spaces)) (s .args .n)) (s .args .what)) (s .args .operation) (k .if1 .left) (c .if3 .taken) (sym (m .before .is-such .ensures) ∙ m .if2 .left)
+    names-one (asks (spacesOf (now (s .args .spaces)) (s .args .n)) (s .args .what)) (s .args .operation) (k .if1 .left) (c .if3 .taken) (sym (m .before .passes .ensures) ∙ m .if2 .left)
 
-is-such-requires-2 : tie.Need-is-such-requires-2
-is-such-requires-2 c κs = search needs
+passes-requires-2 : tie.Need-passes-requires-2
+passes-requires-2 c κs = search needs
 
 returns-4 : tie.Need-returns-4
 returns-4 c = let n = c .before in
     let m = n .before .before in
     let k = m .before .before in
     let s = k .before .before .before in
-    c .is-such2 .ensures ∙ names-two (asks (spacesOf (now (s .args .spaces)) (s .args .n)) (s .args .what)) (s .args .operation) (n .if3 .left) (sym (m .before .is-such .ensures) ∙ m .if2 .left)
+    c .passes2 .ensures ∙ names-two (asks (spacesOf (now (s .args .spaces)) (s .args .n)) (s .args .what)) (s .args .operation) (n .if3 .left) (sym (m .before .passes .ensures) ∙ m .if2 .left)
 
 pub operation-names-spec : {M : Type 1} → statement M
 operation-names-spec =
     tie.close
-    (tie.spec returns is-such-requires returns-2 returns-3 is-such-requires-2 returns-4)
+    (tie.spec returns passes-requires returns-2 returns-3 passes-requires-2 returns-4)

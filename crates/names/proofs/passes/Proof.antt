@@ -1,8 +1,8 @@
--- `names::is_such` meets its contract. Assumes nothing.
+-- `names::passes` meets its contract. Assumes nothing.
 use Rattle.names.specs.Asks.{asks-closed, asks-shut, asks-same}
 use borrow.Author.Needs.{needs}
-use Rattle.names.proofs.is_such.Statement.{statement}
-use Rattle.names.proofs.is_such.Tie as tie
+use Rattle.names.proofs.passes.Statement.{statement}
+use Rattle.names.proofs.passes.Tie as tie
 
 enum-told : tie.Need-enum-told
 enum-told c = search needs
@@ -28,8 +28,8 @@ returns-2 c = asks-shut _ _ _ _ _ (c .is-open-to .ensures) (c .before .before .w
 returns-3 : tie.Need-returns-3
 returns-3 c = asks-same _ _ _ _ (c .before .what2 .given .1)
 
-pub is-such-spec : {M : Type 1} → statement M
-is-such-spec =
+pub passes-spec : {M : Type 1} → statement M
+passes-spec =
     tie.close
     (tie.spec
     enum-told

@@ -18,7 +18,7 @@ use Rattle.sections.specs.Shapes.{Shape, entry, Holds, holds-count}
 -- ---- held beside a section
 
 -- the first n rows of some bytes are these items
-pub record Front {A : Type 0} (k : Shape A) (b : List ℕ) (n : ℕ) (l : List A) : Type 0 where
+pub record FirstRows {A : Type 0} (k : Shape A) (b : List ℕ) (n : ℕ) (l : List A) : Type 0 where
   pub bytes : take (n * k .size) b ≡ joined (map (entry k) l)
   pub count : n ≡ length l
 
@@ -29,17 +29,17 @@ module _ {A : Type 0} (k : Shape A) where
   abbrev whole : ℕ
   whole = k .most * k .size
 
-  pub front-none : (b : List ℕ) (l : List A) → l ≡ [] → Front k b 0 l
+  pub rows-none : (b : List ℕ) (l : List A) → l ≡ [] → FirstRows k b 0 l
   unfolding joined
-  front-none b l e =
+  rows-none b l e =
       let z : 0 * size ≡ 0 = omega arith in
       rw e (record { bytes = rw z; count = refl })
 
   -- a row more
-  pub front-more : (b c s : List ℕ) (n : ℕ) (l : List A) (a : A) → Front k b n l → (n + 1) * size ≤ length b → size ≤ length s → take size s ≡ entry k a
-      → c ≡ over b (n * size) s size → Front k c (n + 1) (l ++ (a ∷ []))
+  pub rows-one-more : (b c s : List ℕ) (n : ℕ) (l : List A) (a : A) → FirstRows k b n l → (n + 1) * size ≤ length b → size ≤ length s → take size s ≡ entry k a
+      → c ≡ over b (n * size) s size → FirstRows k c (n + 1) (l ++ (a ∷ []))
   unfolding joined over
-  front-more b c s n l a f room long e stored =
+  rows-one-more b c s n l a f room long e stored =
       let w : (n + 1) * size ≡ n * size + size = after n size in
       let upto : take (n * size + size) (over b (n * size) s size) ≡ take (n * size) b ++ take size s = take-paste b (n * size) s size (omega arith) long in
       record {
@@ -51,7 +51,7 @@ module _ {A : Type 0} (k : Shape A) where
   entries-wide l = each-map (λ (r : List ℕ). length r ≡ size) (entry k) l (λ a m. pad-length size (k .write a))
 
   -- put after the rows of a section
-  pub holds-added : (p q b : List ℕ) (n h : ℕ) (l new : List A) → Holds k p n l → n + h ≤ k .most → Each (k .Lawful) new → Front k b h new → q ≡ over p (n * size) b (h * size) → Holds k q (n + h) (l ++ new)
+  pub holds-added : (p q b : List ℕ) (n h : ℕ) (l new : List A) → Holds k p n l → n + h ≤ k .most → Each (k .Lawful) new → FirstRows k b h new → q ≡ over p (n * size) b (h * size) → Holds k q (n + h) (l ++ new)
   holds-added p q b n h l new o few lawful f stored =
       let rows : List (List ℕ) = map (entry k) l in
       let more : List (List ℕ) = map (entry k) new in
