@@ -25,11 +25,14 @@ pub fn copy_at(d: &mut [u8], at: usize, s: &[u8])
     copy_part(d, at, s, 0, s.len());
 }
 
-// The n bytes from index from on, moved to index to, which is not above from.
+// The n bytes from index from on, moved to index to, which is not above from. What stands where it goes is not moved byte by byte.
 pub fn move_down(a: &mut [u8], to: usize, from: usize, n: usize)
     requires { ⌜ (to ≤ from) × (from + n ≤ length (now a)) ⌝ }
     ensures { λ _. ⌜ now (a .exit) ≡ over (now (a .entry)) to (drop from (now (a .entry))) n ⌝ }
 {
+    if to == from {
+        return;
+    }
     let mut i = 0;
     while i < n {
         a[to + i] = a[from + i];
