@@ -1,21 +1,21 @@
 -- What a template binds at a tuple's values, field by field. Assumes nothing.
 use mathlib.Core.Path.{_≡_, refl, sym, _∙_}
-use Prim.Native.Nat.{ℕ, zero, suc, _+_, _-_, _*_, _≤_, _<_}
+use Prim.Native.Nat.{ℕ, zero, suc, _+_, _-_, _≤_, _<_}
 use native.Mathlib.Omega.{arith}
 use mathlib.Core.Bool.{true}
 use mathlib.Core.Option.{some}
-use mathlib.Core.List.{List, [], _∷_}
+use mathlib.Core.List.{List}
 use lib.ListN.{length, take, drop, getD, set}
 use lib.Seq.{set-out}
-use Rattle.basis.specs.Sizes.{variables, mostFields, valueSize}
+use Rattle.basis.specs.Sizes.{variables, mostFields}
 use Rattle.model.specs.Value.{Value, value}
 use Rattle.model.specs.Statement as Model
 use Rattle.model.specs.Matching.{Bindings, bindField, bind}
 use Rattle.statements.specs.declared.Field.{Field}
 use Rattle.statements.specs.Flat.{fieldOf, fieldIs, fieldsAre}
 use Rattle.tuples.specs.Section.{tupleAt}
-use Rattle.tuples.specs.Entry.{valueAt, valuesAt, valuesPlace, valueIn}
-use Rattle.tuples.specs.PlaceLaws.{values-of}
+use Rattle.tuples.specs.Entry.{valueAt, valueIn, valuesFrom}
+use Rattle.tuples.specs.PlaceLaws.{values-of, values-first, values-next}
 use Rattle.bindings.specs.Fields.{fields-drop, fields-past}
 use Rattle.bindings.specs.declared.Vars.{Vars}
 use Rattle.bindings.specs.Variables.{bindings, bindingsOf, bindings-set, bindings-length, Sixteen}
@@ -54,24 +54,18 @@ module _ (v : Vars) (f : Field) (u : Value) where
 
 -- before the first: the values of the tuple
 pub bind-first : (bs : Bindings) (fs : List Model.Field) (p : List ℕ) (i n : ℕ) → length ((tupleAt p i) .values) ≡ n → n ≤ mostFields
-    → bind bs fs ((tupleAt p i) .values) ≡ bind bs (drop 0 fs) (valuesAt p (valuesPlace i + 0 * valueSize) (n - 0))
-bind-first bs fs p i n e h =
-    let a : valuesPlace i + 0 ≡ valuesPlace i = omega arith in
-    let b : n - 0 ≡ n = omega arith in
-    rw (a, b, values-of p i n e h)
+    → bind bs fs ((tupleAt p i) .values) ≡ bind bs (drop 0 fs) (valuesFrom p i n 0)
+bind-first bs fs p i n e h = rw (values-first p i n, values-of p i n e h)
 
 -- one field bound, the rest to bind
 pub bind-turn : (bs bs′ : Bindings) (l : List Field) (d : Field) (p : List ℕ) (i n j kind bits : ℕ) → j < n → n ≤ length l
     → kind ≡ (valueIn p i j) .kind → bits ≡ (valueIn p i j) .bits → bs′ ≡ bindField bs (fieldIs (getD l j d)) (value kind bits)
-    → bind bs (drop j (fieldsAre (take n l))) (valuesAt p (valuesPlace i + j * valueSize) (n - j))
-    ≡ bind bs′ (drop (j + 1) (fieldsAre (take n l))) (valuesAt p (valuesPlace i + (j + 1) * valueSize) (n - (j + 1)))
-unfolding bind valuesAt valueAt
-bind-turn bs bs′ l d p i n j kind bits h k e q b =
-    let s : n - j ≡ suc (n - (j + 1)) = omega arith in
-    let t : valuesPlace i + j * valueSize + valueSize ≡ valuesPlace i + (j + 1) * valueSize = omega arith in
-    rw (fields-drop l n j d h k, s, ← t, b, e, q)
+    → bind bs (drop j (fieldsAre (take n l))) (valuesFrom p i n j)
+    ≡ bind bs′ (drop (j + 1) (fieldsAre (take n l))) (valuesFrom p i n (j + 1))
+unfolding bind valueAt
+bind-turn bs bs′ l d p i n j kind bits h k e q b = rw (fields-drop l n j d h k, values-next p i n j h, b, e, q)
 
 -- after the last
-pub bind-last : (bs : Bindings) (l : List Field) (p : List ℕ) (at n : ℕ) → n ≤ length l → bind bs (drop n (fieldsAre (take n l))) (valuesAt p at (n - n)) ≡ bs
+pub bind-last : (bs : Bindings) (l : List Field) (vs : List Value) (n : ℕ) → n ≤ length l → bind bs (drop n (fieldsAre (take n l))) vs ≡ bs
 unfolding bind
-bind-last bs l p at n h = rw (fields-past l n h)
+bind-last bs l vs n h = rw (fields-past l n h)

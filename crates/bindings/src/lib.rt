@@ -1,7 +1,7 @@
 // The variables of a branch: what a template asks for with them, what a tuple binds, and the tuple that an out makes.
 ghost use mathlib.Core.Path.{_≡_};
 ghost use mathlib.Core.Bool.{true};
-ghost use Prim.Native.Nat.{_+_, _*_, _≤_};
+ghost use Prim.Native.Nat.{_+_, _≤_};
 ghost use lib.ListN.{length};
 ghost use Rattle.basis.specs.Choice.{provided};
 ghost use Rattle.basis.specs.ListLaws.{Each};
@@ -12,6 +12,7 @@ ghost use Rattle.model.specs.Execution.{made};
 ghost use Rattle.sums.specs.Meaning.{sumOf};
 ghost use Rattle.statements.specs.Flat.{fieldIs};
 ghost use Rattle.tuples.specs.Section.{tupleAt};
+ghost use Rattle.sections.specs.Rows.{HasRows};
 ghost use Rattle.bindings.specs.Variables.{bindingsOf};
 ghost use Rattle.bindings.specs.Templates.{Asks, AsksFor};
 ghost use Rattle.bindings.specs.Fields.{fieldsIn};
@@ -132,7 +133,7 @@ fn bind_field(v: Vars, f: Field, kind: u8, bits: u32) -> Vars
 
 // The variables with what a template binds at the tuple with index i.
 pub fn bind_at(tuples: &[u8], i: usize, op: Operation, v: Vars) -> Vars
-    requires { ⌜ (op .count ≤ mostFields) × ((i + 1) * tupleSize ≤ length (now tuples)) × (length ((tupleAt (now tuples) i) .values) ≡ op .count) ⌝ }
+    requires { ⌜ (op .count ≤ mostFields) × HasRows tupleSize (now tuples) (i + 1) × (length ((tupleAt (now tuples) i) .values) ≡ op .count) ⌝ }
     ensures { λ r. ⌜ bindingsOf r ≡ bind (bindingsOf v) (fieldsIn op) ((tupleAt (now (tuples .entry)) i) .values) ⌝ }
 {
     let mut w = v;

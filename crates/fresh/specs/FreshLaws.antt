@@ -1,21 +1,22 @@
 -- The fresh-state call. Assumes nothing.
 use mathlib.Core.Path.{_≡_, refl, sym, ap, _∙_}
 use mathlib.Core.Logic.{_≢_}
-use Prim.Native.Nat.{ℕ, _+_, _-_, _<_}
+use Prim.Native.Nat.{ℕ, _+_, _-_}
 use native.Mathlib.Omega.{arith}
-use mathlib.Core.List.{List, [], _∷_, _++_, flatMap}
+use mathlib.Core.List.{List, [], _++_, flatMap}
 use lib.ListN.{length}
 use borrow.Author.Tests.{ne-eqb, eq-eqb}
 use Rattle.basis.specs.Lists.{zeros, pad}
 use Rattle.basis.specs.Numbers.{bigEndian, mask}
 use Rattle.basis.specs.NumberLaws.{bigEndian-length}
 use Rattle.basis.specs.PadLaws.{zeros-length, zeros-add, pad-split}
-use Rattle.basis.specs.Sizes.{markWidth, countWidth, nextWidth, nextAt, spaceCountAt, headerSize, spaceSize, tupleSize, waitingSize, spacesSize, tuplesSize, waitingAllSize, stateSize}
+use Rattle.basis.specs.Sizes.{countWidth, nextWidth, headerSize, spaceSize, tupleSize, waitingSize, spacesSize, tuplesSize, waitingAllSize, stateSize}
 use Rattle.model.specs.Run.{fresh}
 use Rattle.layout.specs.States.{stateMark, headerBytes, spaceBytes, accessBytes, tupleBytes, waitingBytes, area, encode}
 use Rattle.calls.specs.Calls.{freshAnswer, freshCall}
 use Rattle.words.specs.Over.{over}
 use Rattle.words.specs.OverLaws.{over-all, over-left, over-length}
+use Rattle.header.specs.Rows.{nextPart, spaceCountPart, withRow, withMark}
 
 pub fresh-refused : (b : List ℕ) → length b ≢ stateSize → freshAnswer 1 b ≡ freshCall b
 unfolding freshCall
@@ -25,7 +26,7 @@ fresh-refused b h = sym (rw (ne-eqb (length b) stateSize h))
 
 -- mark, next number and count of spaces over zeros
 unfoldable stored : List ℕ → List ℕ
-stored b = over (over (over b 0 stateMark markWidth) nextAt (bigEndian nextWidth 1) nextWidth) spaceCountAt (bigEndian countWidth 1) countWidth
+stored b = withRow spaceCountPart 1 (withRow nextPart 1 (withMark b))
 
 header-fresh : stored (zeros headerSize) ≡ pad headerSize (headerBytes fresh)
 unfolding stored over zeros headerBytes pad bigEndian fresh mask
@@ -49,15 +50,11 @@ rest-fresh =
 stored-left : (z rest : List ℕ) → length z ≡ headerSize → stored (z ++ rest) ≡ stored z ++ rest
 unfolding stored
 stored-left z rest h =
-    let n : List ℕ = bigEndian nextWidth 1 in
-    let c : List ℕ = bigEndian countWidth 1 in
-    let z1 : List ℕ = over z 0 stateMark markWidth in
-    let z2 : List ℕ = over z1 nextAt n nextWidth in
-    let l1 : length z1 ≡ headerSize = over-length z 0 stateMark markWidth (omega arith) (omega arith) ∙ h in
-    let l2 : length z2 ≡ headerSize = over-length z1 nextAt n nextWidth (omega arith) (omega (arith, bigEndian-length nextWidth 1)) ∙ l1 in
-    ap (λ (l : List ℕ). over (over l nextAt n nextWidth) spaceCountAt c countWidth) (over-left z rest 0 stateMark markWidth (omega arith))
-    ∙ ap (λ (l : List ℕ). over l spaceCountAt c countWidth) (over-left z1 rest nextAt n nextWidth (omega arith))
-    ∙ over-left z2 rest spaceCountAt c countWidth (omega arith)
+    let l : length (withMark z) ≡ headerSize = over-length z _ stateMark _ (omega arith) (omega arith) ∙ h in
+    let l′ : length (withRow nextPart 1 (withMark z)) ≡ headerSize = over-length (withMark z) _ (bigEndian nextWidth 1) _ (omega arith) (omega (arith, bigEndian-length nextWidth 1)) ∙ l in
+    ap (λ (x : List ℕ). withRow spaceCountPart 1 (withRow nextPart 1 x)) (over-left z rest _ stateMark _ (omega arith))
+    ∙ ap (withRow spaceCountPart 1) (over-left (withMark z) rest _ (bigEndian nextWidth 1) _ (omega arith))
+    ∙ over-left (withRow nextPart 1 (withMark z)) rest _ (bigEndian countWidth 1) _ (omega arith)
 
 fresh-bytes : (b : List ℕ) → length b ≡ stateSize → stored (over b 0 (zeros stateSize) stateSize) ≡ encode fresh
 unfolding encode
@@ -67,7 +64,7 @@ fresh-bytes b h =
     ap stored all ∙ stored-left (zeros headerSize) rest (zeros-length headerSize) ∙ (λ i. header-fresh i ++ rest-fresh i)
 
 -- zeros, then the mark, the next number and the count of spaces
-pub fresh-done : (b c d e f : List ℕ) → length b ≡ stateSize → c ≡ over b 0 (zeros stateSize) stateSize → d ≡ over c 0 stateMark markWidth → e ≡ over d nextAt (bigEndian nextWidth 1) nextWidth
-    → f ≡ over e spaceCountAt (bigEndian countWidth 1) countWidth → freshAnswer 0 f ≡ freshCall b
+pub fresh-done : (b c d e f : List ℕ) → length b ≡ stateSize → c ≡ over b 0 (zeros stateSize) stateSize → d ≡ withMark c → e ≡ withRow nextPart 1 d
+    → f ≡ withRow spaceCountPart 1 e → freshAnswer 0 f ≡ freshCall b
 unfolding freshCall stored
 fresh-done b c d e f h ec ed ee ef = sym (rw (eq-eqb (length b) stateSize h, ef, ee, ed, ec) (ap (freshAnswer 0) (sym (fresh-bytes b h))))

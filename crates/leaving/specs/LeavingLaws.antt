@@ -1,14 +1,13 @@
 -- The waiting statement at an index of a stored run, and a copy of its body. Assumes nothing.
 use mathlib.Core.Path.{_≡_, refl, sym, ap, subst, _∙_}
-use Prim.Native.Nat.{ℕ, _*_, _≤_, _<_}
+use Prim.Native.Nat.{ℕ, _≤_, _<_}
 use native.Mathlib.Omega.{arith}
 use mathlib.Core.List.{List}
 use lib.ListN.{length, take, drop, getD, length-drop}
 use lib.Seq.{length-take-le, take-at}
 use lib.Dec.{T}
 use Rattle.basis.specs.ListLaws.{Each}
-use Rattle.basis.specs.Numbers.{numberAt}
-use Rattle.basis.specs.Sizes.{positionWidth, mostBody, mostWaiting, waitingSize}
+use Rattle.basis.specs.Sizes.{mostBody, mostWaiting}
 use Rattle.model.specs.Legal.{legalBody}
 use Rattle.model.specs.Run.{Waiting, isOpen}
 use Rattle.model.specs.Statement.{spacesNamed}
@@ -18,7 +17,7 @@ use Rattle.words.specs.Over.{over}
 use Rattle.words.specs.OverLaws.{over-take, over-front}
 use Rattle.sections.specs.Shapes.{getD-member}
 use Rattle.queue.specs.Queue.{IsQueued}
-use Rattle.queue.specs.PlaceLaws.{noWaiting, waitingNth, rowEnd, bodyPlace, bodySize, bodyOf, Stands, stands}
+use Rattle.queue.specs.PlaceLaws.{noWaiting, waitingNth, rowEnd, bodyPlace, bodySize, bodyOf, Stands, stands, rowPosition}
 use Rattle.header.specs.Rows.{queueLent}
 use Rattle.lent.specs.Sections.{queue-read, is-queued}
 use Rattle.queue.specs.Bodies.{row-within, bytes-legal, bytes-statement}
@@ -63,7 +62,7 @@ module _ (b : List ℕ) (i : ℕ) (h : IsStored b) (below : i < length ((decode 
   place-opened k m = h .fit .waiting .each (getD ((decode b) .waiting) i noWaiting) (getD-member ((decode b) .waiting) noWaiting i below) .named k m .0
 
   -- its row is read, its body copied, and it leaves
-  pub gone : (state buffer : List ℕ) (p n : ℕ) → Stored state (without (decode b) i) → p ≡ numberAt (i * waitingSize) positionWidth (queueLent b) → n ≤ mostBody → take n buffer ≡ bodyOf (queueLent b) i
+  pub gone : (state buffer : List ℕ) (p n : ℕ) → Stored state (without (decode b) i) → p ≡ rowPosition (queueLent b) i → n ≤ mostBody → take n buffer ≡ bodyOf (queueLent b) i
       → Gone (decode b) i state buffer p n
   gone state buffer p n s ep small copy = record {
     stored = s;

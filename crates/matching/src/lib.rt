@@ -1,11 +1,12 @@
 // Rule 1 on the tuples of a state: which of them a template matches, and the oldest one.
 ghost use mathlib.Core.Path.{_≡_};
-ghost use Prim.Native.Nat.{_+_, _*_, _≤_, _<_};
+ghost use Prim.Native.Nat.{_+_, _≤_, _<_};
 ghost use lib.ListN.{length};
 ghost use Rattle.basis.specs.Lists.{first};
 ghost use Rattle.basis.specs.Sizes.{mostTuples, mostFields, tupleSize, tuplesSize};
 ghost use Rattle.tuples.specs.Section.{tupleAt, tuplesOf};
 ghost use Rattle.tuples.specs.Entry.{valueIn, valuesIn, eachField};
+ghost use Rattle.sections.specs.Rows.{HasRows};
 ghost use Rattle.matching.specs.Hits.{hits, fieldHits, foundIs};
 
 // What a template asks: the space, and of each of `count` fields the kind and, where one is given, the value.
@@ -24,7 +25,7 @@ pub enum Found {
 
 // Whether field f of the tuple at index i is of the kind of the template's and, where the template gives a value, has the same.
 fn field_hits(tuples: &[u8], i: usize, f: usize, template: Template) -> bool
-    requires { ⌜ ((i + 1) * tupleSize ≤ length (now tuples)) × (f < mostFields) ⌝ }
+    requires { ⌜ HasRows tupleSize (now tuples) (i + 1) × (f < mostFields) ⌝ }
     ensures { λ r. ⌜ r ≡ fieldHits template f (valueIn (now (tuples .entry)) i f) ⌝ }
 {
     if tuples::kind(tuples, i, f) != template.kinds[f] {
@@ -38,7 +39,7 @@ fn field_hits(tuples: &[u8], i: usize, f: usize, template: Template) -> bool
 
 // Whether as many values of the tuple at index i as the template has fields agree with them.
 fn fields_hit(tuples: &[u8], i: usize, template: Template) -> bool
-    requires { ⌜ ((i + 1) * tupleSize ≤ length (now tuples)) × (template .count ≤ mostFields) ⌝ }
+    requires { ⌜ HasRows tupleSize (now tuples) (i + 1) × (template .count ≤ mostFields) ⌝ }
     ensures { λ r. ⌜ r ≡ eachField (fieldHits template) 0 (valuesIn (now (tuples .entry)) i (template .count)) ⌝ }
 {
     let mut f = 0;
@@ -53,7 +54,7 @@ fn fields_hit(tuples: &[u8], i: usize, template: Template) -> bool
 
 // Whether "space, field count, kinds and given values agree" with the tuple at index i.
 pub fn tuple_hits(tuples: &[u8], i: usize, template: Template) -> bool
-    requires { ⌜ ((i + 1) * tupleSize ≤ length (now tuples)) × (template .count ≤ mostFields) ⌝ }
+    requires { ⌜ HasRows tupleSize (now tuples) (i + 1) × (template .count ≤ mostFields) ⌝ }
     ensures { λ r. ⌜ r ≡ hits template (tupleAt (now (tuples .entry)) i) ⌝ }
 {
     if tuples::space(tuples, i) != template.space {

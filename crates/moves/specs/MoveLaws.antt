@@ -1,6 +1,6 @@
 -- What passes over a section leave: the others closed up in place, the selected ones held beside it, both put together. Assumes nothing.
 use mathlib.Core.Path.{_≡_, refl, sym, ap, subst, _∙_}
-use Prim.Native.Nat.{ℕ, _+_, _-_, _*_, _≤_, _<_}
+use Prim.Native.Nat.{ℕ, _+_, _-_, _≤_, _<_}
 use native.Mathlib.Omega.{arith}
 use native.Mathlib.Nat.{add-zero}
 use mathlib.Core.Bool.{Bool, true, false, not}
@@ -20,7 +20,7 @@ use Rattle.model.specs.Valid.{legalTuple}
 use Rattle.layout.specs.States.{tupleRead}
 use Rattle.words.specs.Over.{over}
 use Rattle.words.specs.OverLaws.{over-split, over-left, over-right, over-length, take-over-past}
-use Rattle.sections.specs.Rows.{Rows}
+use Rattle.sections.specs.Rows.{Rows, HasRows, rowsFrom, withRows}
 use Rattle.sections.specs.RowLaws.{pieces-at}
 use Rattle.sections.specs.Loops.{keep-yes, keep-no, Sifted}
 use Rattle.sections.specs.Shapes.{items-length, holds-length, holds-count, holds-keep}
@@ -30,6 +30,7 @@ use Rattle.tuples.specs.SectionLaws.{read-take, entry-is, space-set}
 use Rattle.matching.specs.declared.Template.{Template}
 use Rattle.moves.specs.declared.Copied.the-variants.{Now, Full}
 use Rattle.matching.specs.Hits.{hits, selectsBy}
+use Rattle.tuples.specs.Entry.{withSpace}
 use Rattle.moves.specs.Moves.{others, relocated, Copies}
 
 -- ---- which tuples are selected
@@ -54,7 +55,7 @@ otherRow t r = not (selectsBy t (tupleRead r))
 pub tested : (t : Template) (p₀ p : List ℕ) (n m i : ℕ) → Sifted (otherRow t) tupleSize p₀ n p m i → i < n → (b : Bool) → selectsBy t (tupleAt p i) ≡ b → otherRow t (getD (pieces n tupleSize p₀) i []) ≡ not b
 unfolding tupleAt entryAt
 tested t p₀ p n m i k h b e =
-    let same : take tupleSize (drop (i * tupleSize) p) ≡ getD (pieces n tupleSize p₀) i [] = ap (take tupleSize) (k .back) ∙ sym (pieces-at n tupleSize p₀ i h) in
+    let same : entryAt p i ≡ getD (pieces n tupleSize p₀) i [] = ap (take tupleSize) (k .back) ∙ sym (pieces-at n tupleSize p₀ i h) in
     ap not (ap (λ (r : List ℕ). selectsBy t (tupleRead r)) (sym same) ∙ e)
 
 pub others-kept : (t : Template) (p q : List ℕ) (n m : ℕ) → Section p n → Rows (length p) tupleSize q m (keep (otherRow t) (pieces n tupleSize p)) → Holds q m (others t (tuplesOf p n))
@@ -86,12 +87,12 @@ module _ (t : Template) (to : ℕ) (p b : List ℕ) (n h i : ℕ) (s : Section p
   unfolding relocated
   gather-no e = rw (read-take p n i k, keep-no (selectsBy t) (take i (tuplesOf p n)) (tupleAt p i) e) f
 
-  pub gather-yes : (c : List ℕ) → (h + 1) * tupleSize ≤ length b → selectsBy t (tupleAt p i) ≡ true
-      → c ≡ over b (h * tupleSize) (over (drop (i * tupleSize) p) 0 (bigEndian spaceWidth to) spaceWidth) tupleSize → FirstRows tupleShape c (h + 1) (relocated t to (take (i + 1) (tuplesOf p n)))
+  pub gather-yes : (c : List ℕ) → HasRows tupleSize b (h + 1) → selectsBy t (tupleAt p i) ≡ true
+      → c ≡ withRows tupleSize b h (withSpace to (rowsFrom tupleSize p i)) 1 → FirstRows tupleShape c (h + 1) (relocated t to (take (i + 1) (tuplesOf p n)))
   unfolding relocated
   gather-yes c room e stored =
       let ts : List Tuple = take i (tuplesOf p n) in
-      let d : List ℕ = drop (i * tupleSize) p in
+      let d : List ℕ = rowsFrom tupleSize p i in
       let x : List ℕ = bigEndian spaceWidth to in
       let w : length x ≡ spaceWidth = bigEndian-length spaceWidth to in
       let l : length p ≡ tuplesSize = holds-length tupleShape p n (tuplesOf p n) s in
@@ -125,7 +126,7 @@ moved-count t to p a b n m h o f = omega (arith, holds-count tupleShape a m (oth
 
 -- move
 pub moved-is : (t : Template) (to : ℕ) (p a q b : List ℕ) (n m h : ℕ) → Section p n → to < spaceNumbers → Holds a m (others t (tuplesOf p n)) → FirstRows tupleShape b h (relocated t to (tuplesOf p n))
-    → q ≡ over a (m * tupleSize) b (h * tupleSize) → Holds q n (moved (selectsBy t) to (tuplesOf p n))
+    → q ≡ withRows tupleSize a m b h → Holds q n (moved (selectsBy t) to (tuplesOf p n))
 unfolding moved others relocated
 moved-is t to p a q b n m h s small o f stored =
     let e : m + h ≡ n = moved-count t to p a b n m h o f in
@@ -136,6 +137,6 @@ module _ (t : Template) (to : ℕ) (p b : List ℕ) (n h : ℕ) (s : Section p n
   pub copied-full : mostTuples - n < h → Copies Full p p n (relocated t to (tuplesOf p n))
   copied-full k = (omega (arith, f .count, s .few), refl)
 
-  pub copied-now : (q : List ℕ) → h ≤ mostTuples - n → q ≡ over p (n * tupleSize) b (h * tupleSize) → Copies (Now (n + h)) p q n (relocated t to (tuplesOf p n))
+  pub copied-now : (q : List ℕ) → h ≤ mostTuples - n → q ≡ withRows tupleSize p n b h → Copies (Now (n + h)) p q n (relocated t to (tuplesOf p n))
   copied-now q k stored =
       (omega (arith, f .count), holds-added tupleShape p q b n h (tuplesOf p n) (relocated t to (tuplesOf p n)) s (omega (arith, s .few)) (relocated-legal t to (tuplesOf p n) small (s .lawful)) f stored)

@@ -1,14 +1,14 @@
 // Move and copy on the tuples of a state: all that a template selects, appended to a space.
 ghost use mathlib.Core.Path.{_≡_};
-ghost use Prim.Native.Nat.{_+_, _*_, _≤_, _<_};
-ghost use lib.ListN.{length, drop};
-ghost use Rattle.basis.specs.Numbers.{bigEndian};
-ghost use Rattle.basis.specs.Sizes.{spaceWidth, spaceNumbers, mostFields, tupleSize, tuplesSize};
+ghost use Prim.Native.Nat.{_+_, _≤_, _<_};
+ghost use lib.ListN.{length};
+ghost use Rattle.basis.specs.Sizes.{spaceNumbers, mostFields, tupleSize, tuplesSize};
 ghost use Rattle.model.specs.Execution.{moved};
-ghost use Rattle.words.specs.Over.{over};
 ghost use Rattle.sections.specs.FirstRows.{FirstRows};
 ghost use Rattle.tuples.specs.Section.{tupleShape, tupleAt, tuplesOf, Holds, Section};
 ghost use Rattle.matching.specs.Hits.{selectsBy};
+ghost use Rattle.sections.specs.Rows.{HasRows, rowsFrom, withRows};
+ghost use Rattle.tuples.specs.Entry.{withSpace};
 ghost use Rattle.moves.specs.Moves.{others, relocated, Copies};
 use matching::Template;
 
@@ -20,7 +20,7 @@ pub enum Copied {
 
 // Whether move and copy take the tuple at index i: "0 fields match every tuple of the space".
 fn selected(tuples: &[u8], i: usize, template: Template) -> bool
-    requires { ⌜ ((i + 1) * tupleSize ≤ length (now tuples)) × (template .count ≤ mostFields) ⌝ }
+    requires { ⌜ HasRows tupleSize (now tuples) (i + 1) × (template .count ≤ mostFields) ⌝ }
     ensures { λ r. ⌜ r ≡ selectsBy template (tupleAt (now (tuples .entry)) i) ⌝ }
 {
     if template.count == 0 {
@@ -51,8 +51,8 @@ fn keep_others(tuples: &mut [u8], n: usize, template: Template) -> usize
 
 // The tuple at index i, in the space `to`, as the row at index h of `held`.
 fn hold(held: &mut [u8], h: usize, tuples: &[u8], i: usize, to: u16)
-    requires { ⌜ ((h + 1) * tupleSize ≤ length (now held)) × ((i + 1) * tupleSize ≤ length (now tuples)) ⌝ }
-    ensures { λ _. ⌜ now (held .exit) ≡ over (now (held .entry)) (h * tupleSize) (over (drop (i * tupleSize) (now (tuples .entry))) 0 (bigEndian spaceWidth to) spaceWidth) tupleSize ⌝ }
+    requires { ⌜ HasRows tupleSize (now held) (h + 1) × HasRows tupleSize (now tuples) (i + 1) ⌝ }
+    ensures { λ _. ⌜ now (held .exit) ≡ withRows tupleSize (now (held .entry)) h (withSpace to (rowsFrom tupleSize (now (tuples .entry)) i)) 1 ⌝ }
 {
     tuples::copy_rows(held, h, tuples, i, 1);
     tuples::set_space(held, h, to);

@@ -1,22 +1,22 @@
 -- The tests of the waiting statements' bytes come to what "The state buffer" asks of them. Assumes nothing.
-use mathlib.Core.Path.{_≡_, refl, sym, ap, _∙_}
-use mathlib.Core.List.{List, [], _++_, map, append-assoc}
-use mathlib.Core.Option.{Option, none, some, Option·getD}
+use mathlib.Core.Path.{_≡_, sym, ap, _∙_}
+use mathlib.Core.List.{List, [], _++_, append-assoc}
+use mathlib.Core.Option.{Option, some, Option·getD}
 use Prim.Native.Nat.{ℕ, _+_, _-_, _*_, _≤_, _<_}
 use native.Mathlib.Omega.{arith}
-use mathlib.Core.Bool.{Bool, true, false, not, _&&_}
+use mathlib.Core.Bool.{false, not, _&&_}
 use lib.ListN.{length, take, drop, getD, length-append, length-drop, take-append-drop}
 use lib.Seq.{take-all, take-at, drop-at, drop-drop, length-take-le}
-use lib.Dec.{T, leb, ltb, eqb, leb→le, le→leb}
+use lib.Dec.{T, leb, eqb, leb→le, le→leb}
 use lib.Pow.{areBytes}
 use borrow.Author.Tests.{le-leb, lt-leb}
 use Rattle.basis.specs.Logic.{and-l, and-r, both, true-is}
 use Rattle.basis.specs.Lists.{all, pairwise, zeros, pad, pieces, sameBytes}
-use Rattle.basis.specs.ListLaws.{Each, all-at, all-of, each-map, same-refl, same→eq}
+use Rattle.basis.specs.ListLaws.{Each, all-at, all-of, same-refl, same→eq}
 use Rattle.basis.specs.Numbers.{bigEndian, numberAt}
 use Rattle.basis.specs.NumberLaws.{bytes-take, bytes-drop, bigEndian-length, number-bigEndian, numberAt-lt}
 use Rattle.basis.specs.PadLaws.{pad-split, numberAt-at}
-use Rattle.basis.specs.Sizes.{positionWidth, lengthWidth, processWidth, processAt, positions, mostBody, mostWaiting, waitingLengthAt, waitingBodyAt, waitingSize, waitingAllSize}
+use Rattle.basis.specs.Sizes.{positionWidth, lengthWidth, processWidth, processAt, mostBody, mostWaiting, waitingLengthAt, waitingBodyAt, waitingSize, waitingAllSize}
 use Rattle.model.specs.Statement.{Statement}
 use Rattle.model.specs.Legal.{parse, legalBody}
 use Rattle.model.specs.Writing.{statementBytes}
@@ -26,7 +26,7 @@ use Rattle.layout.specs.States.{waitingBytes, area, noStatement, waitingRead, e
 use Rattle.layout.specs.Stored.{statementOf, legal-parse}
 use Rattle.words.specs.Over.{zerosAt}
 use Rattle.words.specs.ZeroLaws.{zerosAt→zeros, zeros→zerosAt}
-use Rattle.sections.specs.Rows.{Section}
+use Rattle.sections.specs.Rows.{Section, HasRows, unusedZero}
 use Rattle.sections.specs.RowLaws.{take-drop-take, number-written, number-of-row, pieces-at, pieces-wide, pieces-bytes, section-of, section-unused}
 use Rattle.sections.specs.Shapes.{entry, Same, holds-of, area-same, area-of, holds-rows}
 use Rattle.scans.specs.Tests.{ascends, ascends-within, ascends-rise, ascends-of, ascends-map, same-test, differ, all-map, pairwise-map}
@@ -198,7 +198,7 @@ module _ (p : List ℕ) (n : ℕ) (bytes : T (areBytes p)) (long : length p ≡ 
   abbrev ws : List Waiting
   ws = waitingOf p n
 
-  room : n * waitingSize ≤ length p
+  room : HasRows waitingSize p n
   room = omega arith
 
   wide : Each (λ (r : List ℕ). (length r ≡ waitingSize) × T (areBytes r)) rows
@@ -213,7 +213,7 @@ module _ (p : List ℕ) (n : ℕ) (bytes : T (areBytes p)) (long : length p ≡ 
   bodies-of h = rw (all-map (λ w. legalBody (statementBytes (w .statement))) waitingRead rows) (all-of (λ r. legalBody (statementBytes ((waitingRead r) .statement))) rows h)
 
   -- the rows and what lies past them are legal exactly if the section is
-  pub rows-queue : T (zerosAt p (n * waitingSize) (length p - n * waitingSize)) → T (all rowLegal rows) → T (queueLegal p n)
+  pub rows-queue : T (unusedZero waitingSize p n) → T (all rowLegal rows) → T (queueLegal p n)
   unfolding queueLegal
   rows-queue rest t =
       let sound : Each Sound rows = λ r m. row-sound r (wide r m .0) (wide r m .1) (all-at rowLegal rows t r m) in
@@ -233,7 +233,7 @@ module _ (p : List ℕ) (n : ℕ) (bytes : T (areBytes p)) (long : length p ≡ 
     sound : Each Sound rows
     sound r m = record { same = found .1 r m; legal = legal r m }
 
-    pub queue-unused : T (zerosAt p (n * waitingSize) (length p - n * waitingSize))
+    pub queue-unused : T (unusedZero waitingSize p n)
     queue-unused = section-unused waitingSize n p (found .0)
 
     pub queue-rows : T (all rowLegal rows)

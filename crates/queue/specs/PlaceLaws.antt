@@ -36,7 +36,10 @@ rowEnd i = (i + 1) * waitingSize
 abbrev pub bodyPlace : ℕ → ℕ
 bodyPlace i = i * waitingSize + waitingBodyAt
 
--- the length of its body, and the body, as bytes
+-- its position, the length of its body, and the body, as bytes
+abbrev pub rowPosition : List ℕ → ℕ → ℕ
+rowPosition p i = numberAt (i * waitingSize) positionWidth p
+
 abbrev pub bodySize : List ℕ → ℕ → ℕ
 bodySize p i = numberAt (i * waitingSize + waitingLengthAt) lengthWidth p
 
@@ -69,7 +72,7 @@ row-position w l =
 
 -- what stands in it
 pub record Stands (p : List ℕ) (i : ℕ) (w : Waiting) : Type 0 where
-  pub position : numberAt (i * waitingSize) positionWidth p ≡ w .position
+  pub position : rowPosition p i ≡ w .position
   pub size : bodySize p i ≤ mostBody
   pub body : bodyOf p i ≡ statementBytes (w .statement)
   pub parsed : parse (bodyOf p i) ≡ some (w .statement)

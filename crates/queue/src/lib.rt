@@ -5,14 +5,13 @@ ghost use mathlib.Core.List.{[], _∷_, _++_};
 ghost use lib.ListN.{length, getD};
 ghost use lib.Dec.{T};
 ghost use Rattle.basis.specs.Lists.{any, keep, pad, pairwise, pieces, removeAt};
-ghost use Rattle.basis.specs.Numbers.{numberAt};
-ghost use Rattle.basis.specs.Sizes.{positionWidth, lengthWidth, hosts, mostBody, mostWaiting, waitingSize};
+ghost use Rattle.basis.specs.Sizes.{lengthWidth, hosts, mostBody, mostWaiting, waitingSize};
 ghost use Rattle.model.specs.Legal.{legalBody};
 ghost use Rattle.layout.specs.Stored.{statementOf};
-ghost use Rattle.words.specs.Over.{zerosAt};
+ghost use Rattle.sections.specs.Rows.{HasRows, unusedZero};
 ghost use Rattle.queue.specs.Queue.{waitingOf, Queued, IsQueued, ofOther, ofProcess, waits};
 ghost use Rattle.queue.specs.QueueLaws.{rowBytes};
-ghost use Rattle.queue.specs.PlaceLaws.{waitingNth, rowEnd, bodyPlace, bodySize};
+ghost use Rattle.queue.specs.PlaceLaws.{waitingNth, rowEnd, bodyPlace, bodySize, rowPosition};
 ghost use Rattle.queue.specs.Legal.{bodyFits, inOrder, otherProcess};
 
 const ROW: usize = words::WAITING;
@@ -22,7 +21,7 @@ const ROW: usize = words::WAITING;
 // The position of the waiting statement at index i.
 pub fn position(waiting: &[u8], i: usize) -> u32
     requires { ⌜ rowEnd i ≤ length (now waiting) ⌝ }
-    ensures { λ r. ⌜ r ≡ numberAt (i * waitingSize) positionWidth (now (waiting .entry)) ⌝ }
+    ensures { λ r. ⌜ r ≡ rowPosition (now (waiting .entry)) i ⌝ }
 {
     words::word4(waiting, i * ROW)
 }
@@ -138,7 +137,7 @@ pub fn enqueue(waiting: &mut [u8], n: usize, position: u32, body: &[u8])
 
 // The body of the row at index i fits, and "All unused bytes are zero" past it.
 pub fn body_fits(waiting: &[u8], n: usize, i: usize) -> bool
-    requires { ⌜ (n * waitingSize ≤ length (now waiting)) × (i < n) × (n ≤ mostWaiting) ⌝ }
+    requires { ⌜ HasRows waitingSize (now waiting) n × (i < n) × (n ≤ mostWaiting) ⌝ }
     ensures { λ r. ⌜ r ≡ bodyFits (getD (pieces n waitingSize (now (waiting .entry))) i []) ⌝ }
 {
     let len = body_length(waiting, i);
@@ -150,15 +149,15 @@ pub fn body_fits(waiting: &[u8], n: usize, i: usize) -> bool
 
 // "All unused bytes are zero": those past n rows.
 pub fn unused_zero(waiting: &[u8], n: usize) -> bool
-    requires { ⌜ n * waitingSize ≤ length (now waiting) ⌝ }
-    ensures { λ r. ⌜ r ≡ zerosAt (now (waiting .entry)) (n * waitingSize) (length (now (waiting .entry)) - n * waitingSize) ⌝ }
+    requires { ⌜ HasRows waitingSize (now waiting) n ⌝ }
+    ensures { λ r. ⌜ r ≡ unusedZero waitingSize (now (waiting .entry)) n ⌝ }
 {
     scans::unused_zero(waiting, ROW, n)
 }
 
 // "waiting by position", "waiting positions are 1 to the last".
 pub fn in_order(waiting: &[u8], n: usize, last: u32) -> bool
-    requires { ⌜ n * waitingSize ≤ length (now waiting) ⌝ }
+    requires { ⌜ HasRows waitingSize (now waiting) n ⌝ }
     ensures { λ r. ⌜ r ≡ inOrder last (waitingOf (now (waiting .entry)) n) ⌝ }
 {
     scans::rises(waiting, ROW, n, 0, words::POSITION_WIDTH, 1, last as usize)

@@ -2,17 +2,16 @@
 ghost use mathlib.Core.Path.{_≡_};
 ghost use Prim.Native.Nat.{_+_, _*_, _-_, _≤_, _<_};
 ghost use mathlib.Core.List.{[]};
-ghost use lib.ListN.{length, drop, getD};
+ghost use lib.ListN.{drop, getD};
 ghost use Rattle.basis.specs.Lists.{all, pairwise, pieces};
 ghost use Rattle.basis.specs.Numbers.{numberAt};
 ghost use Rattle.basis.specs.Sizes.{mostWidth};
-ghost use Rattle.words.specs.Over.{zerosAt};
-ghost use Rattle.sections.specs.Rows.{has, indexOf};
+ghost use Rattle.sections.specs.Rows.{has, indexOf, HasRows, unusedZero};
 ghost use Rattle.scans.specs.Tests.{ascends, differ};
 
 // The index of the first of n rows that has this number in that place; n, where none has.
 pub fn find(rows: &[u8], size: usize, n: usize, at: usize, w: usize, value: u32) -> usize
-    requires { ⌜ (n * size ≤ length (now rows)) × (at + w ≤ size) × (w ≤ mostWidth) ⌝ }
+    requires { ⌜ HasRows size (now rows) n × (at + w ≤ size) × (w ≤ mostWidth) ⌝ }
     ensures { λ r. ⌜ r ≡ indexOf (has at w value) (pieces n size (now (rows .entry))) ⌝ }
 {
     let mut i = 0;
@@ -35,7 +34,7 @@ pub fn rises(
     least: usize,
     most: usize,
 ) -> bool
-    requires { ⌜ (n * size ≤ length (now rows)) × (at + w ≤ size) × (w ≤ mostWidth) ⌝ }
+    requires { ⌜ HasRows size (now rows) n × (at + w ≤ size) × (w ≤ mostWidth) ⌝ }
     ensures { λ r. ⌜ r ≡ ascends (numberAt at w) least most (pieces n size (now (rows .entry))) ⌝ }
 {
     let mut low = least;
@@ -56,7 +55,7 @@ pub fn rises(
 
 // Whether no row of n after the one at index i has its number in that place.
 fn is_alone(rows: &[u8], size: usize, n: usize, i: usize, at: usize, w: usize) -> bool
-    requires { ⌜ (n * size ≤ length (now rows)) × (i < n) × (at + w ≤ size) × (w ≤ mostWidth) ⌝ }
+    requires { ⌜ HasRows size (now rows) n × (i < n) × (at + w ≤ size) × (w ≤ mostWidth) ⌝ }
     ensures { λ r. ⌜ r ≡ all (differ at w (getD (pieces n size (now (rows .entry))) i [])) (drop (i + 1) (pieces n size (now (rows .entry)))) ⌝ }
 {
     let number = sections::field(rows, size, n, i, at, w);
@@ -72,7 +71,7 @@ fn is_alone(rows: &[u8], size: usize, n: usize, i: usize, at: usize, w: usize) -
 
 // Whether no two of n rows have the same number in that place.
 pub fn are_apart(rows: &[u8], size: usize, n: usize, at: usize, w: usize) -> bool
-    requires { ⌜ (n * size ≤ length (now rows)) × (at + w ≤ size) × (w ≤ mostWidth) ⌝ }
+    requires { ⌜ HasRows size (now rows) n × (at + w ≤ size) × (w ≤ mostWidth) ⌝ }
     ensures { λ r. ⌜ r ≡ pairwise (differ at w) (pieces n size (now (rows .entry))) ⌝ }
 {
     let mut i = 0;
@@ -87,8 +86,8 @@ pub fn are_apart(rows: &[u8], size: usize, n: usize, at: usize, w: usize) -> boo
 
 // "All unused bytes are zero": those past the n rows.
 pub fn unused_zero(rows: &[u8], size: usize, n: usize) -> bool
-    requires { ⌜ n * size ≤ length (now rows) ⌝ }
-    ensures { λ r. ⌜ r ≡ zerosAt (now (rows .entry)) (n * size) (length (now (rows .entry)) - n * size) ⌝ }
+    requires { ⌜ HasRows size (now rows) n ⌝ }
+    ensures { λ r. ⌜ r ≡ unusedZero size (now (rows .entry)) n ⌝ }
 {
     let used = n * size;
     spans::zero_run(rows, used, rows.len() - used)

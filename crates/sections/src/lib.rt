@@ -6,7 +6,7 @@ ghost use lib.ListN.{length};
 ghost use Rattle.basis.specs.Lists.{keep, pad, pieces, removeAt};
 ghost use Rattle.basis.specs.Numbers.{numberAt};
 ghost use Rattle.basis.specs.Sizes.{mostWidth};
-ghost use Rattle.sections.specs.Rows.{Rows, Section, lacks};
+ghost use Rattle.sections.specs.Rows.{Rows, Section, lacks, HasRows};
 
 // The row at index i cut out: the later ones moved down, the last one's bytes cleared.
 pub fn cut(rows: &mut [u8], size: usize, n: usize, i: usize)
@@ -19,7 +19,7 @@ pub fn cut(rows: &mut [u8], size: usize, n: usize, i: usize)
 
 // A row after the n that are there; its last bytes may be left out where they are zero.
 pub fn append(rows: &mut [u8], size: usize, n: usize, row: &[u8])
-    requires { ⌜ Section size (now rows) n × ((n + 1) * size ≤ length (now rows)) × (length (now row) ≤ size) ⌝ }
+    requires { ⌜ Section size (now rows) n × HasRows size (now rows) (n + 1) × (length (now row) ≤ size) ⌝ }
     ensures { λ _. ⌜ Rows (length (now (rows .entry))) size (now (rows .exit)) (n + 1) (pieces n size (now (rows .entry)) ++ (pad size (now (row .entry)) ∷ [])) ⌝ }
 {
     spans::copy_at(rows, n * size, row);
@@ -27,7 +27,7 @@ pub fn append(rows: &mut [u8], size: usize, n: usize, row: &[u8])
 
 // The number of w bytes from at on of the row at index i.
 pub fn field(rows: &[u8], size: usize, n: usize, i: usize, at: usize, w: usize) -> u32
-    requires { ⌜ (n * size ≤ length (now rows)) × (i < n) × (at + w ≤ size) × (w ≤ mostWidth) ⌝ }
+    requires { ⌜ HasRows size (now rows) n × (i < n) × (at + w ≤ size) × (w ≤ mostWidth) ⌝ }
     ensures { λ r. ⌜ r ≡ numberAt (i * size + at) w (now (rows .entry)) ⌝ }
 {
     words::number(rows, i * size + at, w)

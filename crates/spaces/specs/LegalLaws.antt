@@ -23,7 +23,7 @@ use Rattle.layout.specs.States.{accessBytes, spaceBytes, area, byteAt, spaceRea
 use Rattle.words.specs.Over.{zerosAt}
 use Rattle.words.specs.ZeroLaws.{zerosAt→zeros, zeros→zerosAt}
 use Rattle.words.specs.WordLaws.{numberAt-1}
-use Rattle.sections.specs.Rows.{Section}
+use Rattle.sections.specs.Rows.{Section, HasRows, unusedZero}
 use Rattle.sections.specs.RowLaws.{pad-whole, number-written, number-of-row, pieces-wide, pieces-bytes, section-of, section-unused}
 use Rattle.sections.specs.Shapes.{Same, holds-of, area-same, area-of}
 use Rattle.scans.specs.Tests.{ascends, ascends-within, ascends-rise, ascends-of, ascends-map, refused, same-test}
@@ -165,7 +165,7 @@ zero-first a l rise t = go (or-cases (zeroOpen a) (any zeroOpen l) t)
 pub record Tests (p : List ℕ) (n next : ℕ) : Type 0 where
   pub some : 1 ≤ n
   pub above : 1 ≤ next
-  pub unused : T (zerosAt p (n * spaceSize) (length p - n * spaceSize))
+  pub unused : T (unusedZero spaceSize p n)
   pub first : T (zerosAt p 0 spaceSize)
   pub rising : T (ascends (numberAt 0 spaceWidth) 0 (next - 1) (pieces n spaceSize p))
   pub access : T (all accessOk (pieces n spaceSize p))
@@ -207,7 +207,7 @@ module _ (p : List ℕ) (n next : ℕ) (bytes : T (areBytes p)) (long : length p
   abbrev ss : List Space
   ss = spacesOf p n
 
-  room : n * spaceSize ≤ length p
+  room : HasRows spaceSize p n
   room = omega arith
 
   -- numbers of rows are numbers of spaces
@@ -293,7 +293,7 @@ module _ (p : List ℕ) (n next : ℕ) (bytes : T (areBytes p)) (long : length p
   not-legal h = refused (spacesLegal p n next) (λ t. h (legal-tests t))
 
   -- the last of them decides
-  pub then-rising : 1 ≤ n → 1 ≤ next → T (zerosAt p (n * spaceSize) (length p - n * spaceSize)) → T (zerosAt p 0 spaceSize) → T (all accessOk rows)
+  pub then-rising : 1 ≤ n → 1 ≤ next → T (unusedZero spaceSize p n) → T (zerosAt p 0 spaceSize) → T (all accessOk rows)
       → ascends (numberAt 0 spaceWidth) 0 (next - 1) rows ≡ spacesLegal p n next
   then-rising some above unused first access =
       same-test (ascends (numberAt 0 spaceWidth) 0 (next - 1) rows) (spacesLegal p n next)

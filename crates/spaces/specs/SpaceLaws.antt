@@ -9,7 +9,7 @@ use lib.Seq.{getD-take, getD-drop}
 use lib.Dec.{T, eqb, ltb, ltb→lt}
 use borrow.Author.Tests.{eqb-true, eq-eqb, ne-eqb, lt-ltb, le-ltb}
 use Rattle.basis.specs.Logic.{and-l, and-r}
-use Rattle.basis.specs.Lists.{all, any, pairwise, zeros, pieces}
+use Rattle.basis.specs.Lists.{all, any, pairwise, zeros}
 use Rattle.basis.specs.Numbers.{bigEndian, numberAt}
 use Rattle.basis.specs.NumberLaws.{bigEndian-length, number-bigEndian}
 use Rattle.basis.specs.PadLaws.{numberAt-pad}
@@ -18,11 +18,11 @@ use Rattle.model.specs.Run.{Access, shared, private, Space, isOpen, deniedTo, i
 use Rattle.layout.specs.States.{accessBytes, spaceBytes, byteAt, spaceRead}
 use Rattle.words.specs.Over.{over}
 use Rattle.words.specs.WordLaws.{numberAt-1}
-use Rattle.sections.specs.Rows.{has, lacks, indexOf}
+use Rattle.sections.specs.Rows.{has, lacks, indexOf, HasRows}
 use Rattle.sections.specs.RowLaws.{number-in}
 use Rattle.sections.specs.Loops.{index-any}
-use Rattle.sections.specs.Shapes.{entry, item-at, items-length, holds-index}
-use Rattle.spaces.specs.Spaces.{Small, spaceShape, spacesOf, IsListed, Rising, numbered, otherThan, opening, noSpace}
+use Rattle.sections.specs.Shapes.{entry, item-at, items-length}
+use Rattle.spaces.specs.Spaces.{Small, spaceShape, spacesOf, Rising, numbered, otherThan, opening, noSpace}
 
 -- ---- the number of a row
 
@@ -100,7 +100,7 @@ module _ (p : List ℕ) (n m r q : ℕ) (e : r ≡ indexOf (numbered m) (spacesO
 
 -- ---- kind and owner of a row
 
-module _ (p : List ℕ) (n i : ℕ) (room : n * spaceSize ≤ length p) (below : i < n) where
+module _ (p : List ℕ) (n i : ℕ) (room : HasRows spaceSize p n) (below : i < n) where
   abbrev at : ℕ
   at = i * spaceSize
 

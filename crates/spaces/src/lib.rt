@@ -8,7 +8,7 @@ ghost use Rattle.basis.specs.Lists.{all, keep, pieces};
 ghost use Rattle.basis.specs.Sizes.{mostSpaces, spaceNumbers, spaceSize, spacesSize};
 ghost use Rattle.model.specs.Run.{isOpen, deniedTo, isDenied};
 ghost use Rattle.layout.specs.States.{spaceBytes};
-ghost use Rattle.sections.specs.Rows.{indexOf};
+ghost use Rattle.sections.specs.Rows.{indexOf, HasRows};
 ghost use Rattle.spaces.specs.Spaces.{spacesOf, Listed, IsListed, Rising, numbered, otherThan, opening, noSpace};
 ghost use Rattle.spaces.specs.Legal.{spacesLegal, accessOk};
 ghost use Rattle.spaces.specs.SearchLaws.{numberIn, reached};
@@ -17,7 +17,7 @@ const ROW: usize = words::SPACE;
 
 // The number of the space at an index.
 fn number_at(spaces: &[u8], n: usize, i: usize) -> u16
-    requires { ⌜ (n * spaceSize ≤ length (now spaces)) × (i < n) ⌝ }
+    requires { ⌜ HasRows spaceSize (now spaces) n × (i < n) ⌝ }
     ensures { λ r. ⌜ r ≡ numberIn (spacesOf (now (spaces .entry)) n) i ⌝ }
 {
     words::space_number(spaces, i * ROW)
@@ -25,7 +25,7 @@ fn number_at(spaces: &[u8], n: usize, i: usize) -> u16
 
 // Whether there is a space at an index, whose number is not above this one.
 fn reaches(spaces: &[u8], n: usize, i: usize, number: u16) -> bool
-    requires { ⌜ n * spaceSize ≤ length (now spaces) ⌝ }
+    requires { ⌜ HasRows spaceSize (now spaces) n ⌝ }
     ensures { λ r. ⌜ r ≡ reached (spacesOf (now (spaces .entry)) n) n number i ⌝ }
 {
     if n <= i {
@@ -37,7 +37,7 @@ fn reaches(spaces: &[u8], n: usize, i: usize, number: u16) -> bool
 // The index of the space of a number, where numbers rise; n, where it is not open: by halving what is left from index `low` on. It begins
 // with room for all spaces, so that every search has the same few steps, and no jump in them depends on the number.
 fn place(spaces: &[u8], n: usize, number: u16) -> usize
-    requires { ⌜ (n * spaceSize ≤ length (now spaces)) × (n ≤ mostSpaces) × Rising (spacesOf (now spaces) n) ⌝ }
+    requires { ⌜ HasRows spaceSize (now spaces) n × (n ≤ mostSpaces) × Rising (spacesOf (now spaces) n) ⌝ }
     ensures { λ r. ⌜ r ≡ indexOf (numbered number) (spacesOf (now (spaces .entry)) n) ⌝ }
 {
     let mut low = 0;
@@ -70,7 +70,7 @@ pub fn is_open(spaces: &[u8], n: usize, number: u16) -> bool
 
 // Whether the space at an index is private to another process.
 fn denied_at(spaces: &[u8], n: usize, i: usize, process: u16) -> bool
-    requires { ⌜ (n * spaceSize ≤ length (now spaces)) × (i < n) ⌝ }
+    requires { ⌜ HasRows spaceSize (now spaces) n × (i < n) ⌝ }
     ensures { λ r. ⌜ r ≡ deniedTo process ((getD (spacesOf (now (spaces .entry)) n) i noSpace) .access) ⌝ }
 {
     if sections::field(spaces, ROW, n, i, words::SPACE_KIND_AT, words::KIND_WIDTH) != 1 {
@@ -145,7 +145,7 @@ pub fn close(spaces: &mut [u8], n: usize, number: u16) -> usize
 
 // Kind and owner of the row at index i: private, or shared, whose owner is 0.
 fn access_ok(spaces: &[u8], n: usize, i: usize) -> bool
-    requires { ⌜ (n * spaceSize ≤ length (now spaces)) × (i < n) ⌝ }
+    requires { ⌜ HasRows spaceSize (now spaces) n × (i < n) ⌝ }
     ensures { λ r. ⌜ r ≡ accessOk (getD (pieces n spaceSize (now (spaces .entry))) i []) ⌝ }
 {
     let kind = sections::field(spaces, ROW, n, i, words::SPACE_KIND_AT, words::KIND_WIDTH);
@@ -168,7 +168,7 @@ fn access_ok(spaces: &[u8], n: usize, i: usize) -> bool
 
 // Those of n rows.
 fn accesses_ok(spaces: &[u8], n: usize) -> bool
-    requires { ⌜ n * spaceSize ≤ length (now spaces) ⌝ }
+    requires { ⌜ HasRows spaceSize (now spaces) n ⌝ }
     ensures { λ r. ⌜ r ≡ all accessOk (pieces n spaceSize (now (spaces .entry))) ⌝ }
 {
     let mut i = 0;

@@ -5,7 +5,7 @@ use mathlib.Core.List.{List, [], _∷_, map}
 use Prim.Native.Nat.{ℕ, zero, suc, _+_, _-_, _*_, _≤_, _<_}
 use native.Mathlib.Omega.{arith}
 use native.Mathlib.Numerals.{add-one}
-use native.Mathlib.Nat.{add-zero}
+use native.Mathlib.Nat.{zero-mul, add-zero, sub-zero}
 use lib.ListN.{length, take, drop, getD, length-map}
 use lib.Seq.{take-take, drop-drop, getD-take, getD-drop}
 use Rattle.basis.specs.Lists.{pieces}
@@ -16,7 +16,7 @@ use Rattle.layout.specs.States.{byteAt, valueRead, tupleRead}
 use Rattle.words.specs.OverLaws.{drop-take}
 use Rattle.sections.specs.RowLaws.{pieces-length, number-in}
 use Rattle.tuples.specs.Section.{entryAt, tupleAt}
-use Rattle.tuples.specs.Entry.{valueAt, valuesAt, valuesPlace, valuesIn, eachField}
+use Rattle.tuples.specs.Entry.{valueAt, valuesAt, valuesPlace, valueIn, valuesIn, valuesFrom, eachField}
 
 -- ---- the parts
 
@@ -65,26 +65,41 @@ values-of p i c e h =
     let d : drop tupleValuesAt b ≡ take all (drop (valuesPlace i) p) = drop-take tupleValuesAt all (drop (i * tupleSize) p) ∙ ap (take all) (drop-drop tupleValuesAt (i * tupleSize) p) in
     rw (n, d) (values-at p c (valuesPlace i) all (omega arith))
 
--- ---- a test of each value, from index f on
+-- ---- the values from field f on
 
-module _ (test : ℕ → Value → Bool) (b : List ℕ) (at n f : ℕ) where
-  each-step : f < n → eachField test f (valuesAt b (at + f * valueSize) (n - f)) ≡ (test f (valueAt b (at + f * valueSize)) && eachField test (f + 1) (valuesAt b (at + (f + 1) * valueSize) (n - (f + 1))))
-  unfolding eachField valuesAt
-  each-step h =
+module _ (p : List ℕ) (i n f : ℕ) where
+  -- one, and those after it
+  pub values-next : f < n → valuesFrom p i n f ≡ valueIn p i f ∷ valuesFrom p i n (f + 1)
+  unfolding valuesAt
+  values-next h =
       let e : n - f ≡ suc (n - (f + 1)) = omega arith in
-      let k : at + (f + 1) * valueSize ≡ at + f * valueSize + valueSize = omega arith in
-      rw (e, k, add-one f)
+      let k : valuesPlace i + (f + 1) * valueSize ≡ valuesPlace i + f * valueSize + valueSize = omega arith in
+      rw (e, k)
+
+  -- none is left
+  pub values-end : n ≤ f → valuesFrom p i n f ≡ []
+  unfolding valuesAt
+  values-end h = let e : n - f ≡ 0 = omega arith in rw e
+
+pub values-first : (p : List ℕ) (i n : ℕ) → valuesFrom p i n 0 ≡ valuesIn p i n
+values-first p i n = simp (zero-mul, add-zero, sub-zero)
+
+-- ---- a test of each value, from field f on
+
+module _ (test : ℕ → Value → Bool) (p : List ℕ) (i n f : ℕ) where
+  each-step : f < n → eachField test f (valuesFrom p i n f) ≡ (test f (valueIn p i f) && eachField test (f + 1) (valuesFrom p i n (f + 1)))
+  unfolding eachField
+  each-step h = rw (values-next p i n f h, add-one f)
 
   -- one that fails
-  pub each-miss : f < n → test f (valueAt b (at + f * valueSize)) ≡ false → eachField test f (valuesAt b (at + f * valueSize) (n - f)) ≡ false
+  pub each-miss : f < n → test f (valueIn p i f) ≡ false → eachField test f (valuesFrom p i n f) ≡ false
   each-miss h e = each-step h ∙ rw e
 
   -- one that passes
-  pub each-more : f < n → test f (valueAt b (at + f * valueSize)) ≡ true
-      → eachField test f (valuesAt b (at + f * valueSize) (n - f)) ≡ eachField test (f + 1) (valuesAt b (at + (f + 1) * valueSize) (n - (f + 1)))
+  pub each-more : f < n → test f (valueIn p i f) ≡ true → eachField test f (valuesFrom p i n f) ≡ eachField test (f + 1) (valuesFrom p i n (f + 1))
   each-more h e = each-step h ∙ rw e
 
   -- the end
-  pub each-end : n ≤ f → eachField test f (valuesAt b (at + f * valueSize) (n - f)) ≡ true
-  unfolding eachField valuesAt
-  each-end h = let e : n - f ≡ 0 = omega arith in rw e
+  pub each-end : n ≤ f → eachField test f (valuesFrom p i n f) ≡ true
+  unfolding eachField
+  each-end h = rw (values-end p i n f h)

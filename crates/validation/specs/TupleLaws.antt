@@ -1,6 +1,6 @@
 -- The tests of the tuples' bytes come to what "The state buffer" asks of them. Assumes nothing.
 use mathlib.Core.Path.{_≡_, sym, ap, _∙_}
-use Prim.Native.Nat.{ℕ, _-_, _*_, _≤_, _<_}
+use Prim.Native.Nat.{ℕ, _-_, _≤_, _<_}
 use native.Mathlib.Omega.{arith}
 use mathlib.Core.Bool.{Bool, true, false}
 use mathlib.Core.List.{List, [], map}
@@ -14,8 +14,7 @@ use Rattle.model.specs.Matching.{Tuple}
 use Rattle.model.specs.Run.{Space, isOpen}
 use Rattle.model.specs.Valid.{legalTuple}
 use Rattle.layout.specs.States.{tupleBytes, area, tupleRead, entries}
-use Rattle.words.specs.Over.{zerosAt}
-use Rattle.sections.specs.Rows.{Section}
+use Rattle.sections.specs.Rows.{Section, HasRows, unusedZero}
 use Rattle.sections.specs.RowLaws.{pieces-at, section-of, section-unused}
 use Rattle.sections.specs.Shapes.{Shape, Same, area-same, area-of}
 use Rattle.scans.specs.Tests.{all-map}
@@ -61,7 +60,7 @@ module _ (ss : List Space) (p : List ℕ) (m : ℕ) (long : length p ≡ tuplesS
   abbrev rows : List (List ℕ)
   rows = pieces m tupleSize p
 
-  room : m * tupleSize ≤ length p
+  room : HasRows tupleSize p m
   room = omega arith
 
   -- what one row's test says
@@ -86,7 +85,7 @@ module _ (ss : List Space) (p : List ℕ) (m : ℕ) (long : length p ≡ tuplesS
       let placed : T (inOpen ss (tupleRead r)) = o .placed in
       search (both, legal, same, placed) depth 6
 
-  pub rows-tuples : T (zerosAt p (m * tupleSize) (length p - m * tupleSize)) → T (all (rowOpen ss) rows) → T (tuplesLegal ss p m)
+  pub rows-tuples : T (unusedZero tupleSize p m) → T (all (rowOpen ss) rows) → T (tuplesLegal ss p m)
   unfolding tuplesLegal entries
   rows-tuples rest t =
       let each : Each One rows = λ r i. one r (all-at (rowOpen ss) rows t r i) in
@@ -109,7 +108,7 @@ module _ (ss : List Space) (p : List ℕ) (m : ℕ) (long : length p ≡ tuplesS
     unfolding tuplesLegal entries
     places = let u : T (all (inOpen ss) (map tupleRead rows)) = search (and-l, and-r, t) depth 4 in all-at (λ r. inOpen ss (tupleRead r)) rows (rw (all-map (inOpen ss) tupleRead rows) at u)
 
-    pub tuples-unused : T (zerosAt p (m * tupleSize) (length p - m * tupleSize))
+    pub tuples-unused : T (unusedZero tupleSize p m)
     tuples-unused = section-unused tupleSize m p (found .0)
 
     pub tuples-rows : T (all (rowOpen ss) rows)

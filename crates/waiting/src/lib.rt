@@ -1,6 +1,6 @@
 // The statements that wait in a state: what "The state buffer" asks of each.
 ghost use mathlib.Core.Path.{_≡_};
-ghost use Prim.Native.Nat.{_*_, _≤_, _<_};
+ghost use Prim.Native.Nat.{_≤_, _<_};
 ghost use mathlib.Core.List.{[]};
 ghost use lib.ListN.{length, getD};
 ghost use Rattle.basis.specs.Lists.{all, pieces};
@@ -10,6 +10,7 @@ ghost use Rattle.spaces.specs.Spaces.{spacesOf, IsListed, Rising};
 ghost use Rattle.queue.specs.Queue.{waitingOf, IsQueued};
 ghost use Rattle.queue.specs.PlaceLaws.{waitingNth};
 ghost use Rattle.queue.specs.Legal.{rowLegal, queueLegal};
+ghost use Rattle.sections.specs.Rows.{HasRows};
 ghost use Rattle.waiting.specs.Waits.{mayWait};
 use names::SpaceTest;
 
@@ -17,7 +18,7 @@ use names::SpaceTest;
 
 // The row at index i has a legal body, and zeros past it.
 fn row_ok(waiting: &[u8], n: usize, i: usize) -> bool
-    requires { ⌜ (n * waitingSize ≤ length (now waiting)) × (i < n) × (n ≤ mostWaiting) ⌝ }
+    requires { ⌜ HasRows waitingSize (now waiting) n × (i < n) × (n ≤ mostWaiting) ⌝ }
     ensures { λ r. ⌜ r ≡ rowLegal (getD (pieces n waitingSize (now (waiting .entry))) i []) ⌝ }
 {
     if !queue::body_fits(waiting, n, i) {
@@ -30,7 +31,7 @@ fn row_ok(waiting: &[u8], n: usize, i: usize) -> bool
 
 // Each of n rows.
 fn rows_ok(waiting: &[u8], n: usize) -> bool
-    requires { ⌜ (n * waitingSize ≤ length (now waiting)) × (n ≤ mostWaiting) ⌝ }
+    requires { ⌜ HasRows waitingSize (now waiting) n × (n ≤ mostWaiting) ⌝ }
     ensures { λ r. ⌜ r ≡ all rowLegal (pieces n waitingSize (now (waiting .entry))) ⌝ }
 {
     let mut i = 0;

@@ -26,6 +26,7 @@ use Rattle.sections.specs.RowLaws.{number-written}
 use Rattle.tuples.specs.Section.{entryBytes, entryAt, tupleAt}
 use Rattle.tuples.specs.Entry.{isEntry, valueAt, valuesAt, valuesPlace, valueIn, valuesIn, eachField}
 use Rattle.tuples.specs.PlaceLaws.{space-at, count-at, values-of}
+use Rattle.sections.specs.Rows.{HasRows}
 use Rattle.wellformed.specs.Fields.{isZero, fieldOk, fieldOkAt}
 
 -- ---- zeros
@@ -110,7 +111,7 @@ module _ (p : List ℕ) (bytes : T (areBytes p)) where
       let e : suc c * valueSize ≡ valueSize + c * valueSize = omega arith in
       rw (e, take-add valueSize (c * valueSize) (drop at p), drop-drop valueSize at p, value-back at (omega arith), values-back c (at + valueSize) (omega arith))
 
-  module _ (i c : ℕ) (is : length ((tupleAt p i) .values) ≡ c) (few : c ≤ mostFields) (room : (i + 1) * tupleSize ≤ length p) where
+  module _ (i c : ℕ) (is : length ((tupleAt p i) .values) ≡ c) (few : c ≤ mostFields) (room : HasRows tupleSize p (i + 1)) where
     -- the bytes that are used, and those that are not
     abbrev used : ℕ
     used = tupleValuesAt + c * valueSize
@@ -205,7 +206,7 @@ module _ (p : List ℕ) (i c : ℕ) (is : c ≡ length ((tupleAt p i) .values)) 
   unfolding isEntry legalTuple tupleAt
   entry-high h = sym (rw (← is, lt-leb c mostFields h) (and-high (leb 1 c) (all legalValue ((tupleAt p i) .values)) (sameBytes (entryBytes (tupleAt p i)) (entryAt p i))))
 
-  pub entry-fields : ((k : ℕ) → getD p k 0 < 256) → (i + 1) * tupleSize ≤ length p → 1 ≤ c → c ≤ mostFields → eachField (fieldOkAt c) 0 (valuesIn p i mostFields) ≡ isEntry (entryAt p i)
+  pub entry-fields : ((k : ℕ) → getD p k 0 < 256) → HasRows tupleSize p (i + 1) → 1 ≤ c → c ≤ mostFields → eachField (fieldOkAt c) 0 (valuesIn p i mostFields) ≡ isEntry (entryAt p i)
   unfolding isEntry legalTuple tupleAt
   entry-fields bytes room low few =
       let at : ℕ = valuesPlace i in

@@ -1,17 +1,16 @@
 // Which rows of the tuples are the entries of legal tuples, and the zeros past them, for the test of a state.
 ghost use mathlib.Core.Path.{_≡_};
-ghost use Prim.Native.Nat.{_+_, _-_, _*_, _≤_, _<_};
-ghost use lib.ListN.{length};
+ghost use Prim.Native.Nat.{_+_, _-_, _<_};
 ghost use Rattle.basis.specs.Sizes.{mostFields, tupleSize};
-ghost use Rattle.words.specs.Over.{zerosAt};
 ghost use Rattle.tuples.specs.Section.{entryAt};
 ghost use Rattle.tuples.specs.Entry.{isEntry, valueIn, valuesIn, eachField};
+ghost use Rattle.sections.specs.Rows.{HasRows, unusedZero};
 ghost use Rattle.wellformed.specs.Fields.{fieldOk, fieldOkAt};
 
 // Whether the value of field f of the row at index i is legal or, where the field is not used, zero. Its four bytes are read only where
 // they are asked for, since a read that many tests share is slow.
 fn field_ok(tuples: &[u8], i: usize, f: usize, used: bool) -> bool
-    requires { ⌜ ((i + 1) * tupleSize ≤ length (now tuples)) × (f < mostFields) ⌝ }
+    requires { ⌜ HasRows tupleSize (now tuples) (i + 1) × (f < mostFields) ⌝ }
     ensures { λ r. ⌜ r ≡ fieldOk used (valueIn (now (tuples .entry)) i f) ⌝ }
 {
     let kind = tuples::kind(tuples, i, f);
@@ -29,7 +28,7 @@ fn field_ok(tuples: &[u8], i: usize, f: usize, used: bool) -> bool
 
 // Whether of the six values of the row at index i the first `count` are legal and the others zero.
 fn fields_ok(tuples: &[u8], i: usize, count: usize) -> bool
-    requires { ⌜ (i + 1) * tupleSize ≤ length (now tuples) ⌝ }
+    requires { ⌜ HasRows tupleSize (now tuples) (i + 1) ⌝ }
     ensures { λ r. ⌜ r ≡ eachField (fieldOkAt count) 0 (valuesIn (now (tuples .entry)) i mostFields) ⌝ }
 {
     let mut f = 0;
@@ -44,7 +43,7 @@ fn fields_ok(tuples: &[u8], i: usize, count: usize) -> bool
 
 // Whether the row at index i is that of a legal tuple: "A tuple has 1 to 6 values", "All unused bytes are zero".
 pub fn tuple_ok(tuples: &[u8], i: usize) -> bool
-    requires { ⌜ (i + 1) * tupleSize ≤ length (now tuples) ⌝ }
+    requires { ⌜ HasRows tupleSize (now tuples) (i + 1) ⌝ }
     ensures { λ r. ⌜ r ≡ isEntry (entryAt (now (tuples .entry)) i) ⌝ }
 {
     let count = tuples::field_count(tuples, i);
@@ -59,8 +58,8 @@ pub fn tuple_ok(tuples: &[u8], i: usize) -> bool
 
 // "All unused bytes are zero": those past n rows.
 pub fn unused_zero(tuples: &[u8], n: usize) -> bool
-    requires { ⌜ n * tupleSize ≤ length (now tuples) ⌝ }
-    ensures { λ r. ⌜ r ≡ zerosAt (now (tuples .entry)) (n * tupleSize) (length (now (tuples .entry)) - n * tupleSize) ⌝ }
+    requires { ⌜ HasRows tupleSize (now tuples) n ⌝ }
+    ensures { λ r. ⌜ r ≡ unusedZero tupleSize (now (tuples .entry)) n ⌝ }
 {
     scans::unused_zero(tuples, words::TUPLE, n)
 }

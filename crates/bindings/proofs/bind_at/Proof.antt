@@ -1,14 +1,14 @@
 -- `bindings::bind_at` meets its contract. Assumes nothing.
 use borrow.Author.Needs.{needs}
 use mathlib.Core.Path.{_≡_, sym, _∙_}
-use Prim.Native.Nat.{_+_, _*_, _-_, _≤_}
+use Prim.Native.Nat.{_-_, _≤_}
 use native.Mathlib.Omega.{arith}
 use lib.ListN.{length, drop}
 use denote.Ref.{now}
-use Rattle.basis.specs.Sizes.{mostFields, valueSize}
+use Rattle.basis.specs.Sizes.{mostFields}
 use Rattle.model.specs.Matching.{bind}
 use Rattle.tuples.specs.Section.{tupleAt}
-use Rattle.tuples.specs.Entry.{valuesAt, valuesPlace}
+use Rattle.tuples.specs.Entry.{valuesFrom}
 use Rattle.bindings.specs.Fields.{fieldsIn, length-mapped}
 use Rattle.bindings.specs.Variables.{bindingsOf}
 use Rattle.bindings.specs.Binding.{bind-first, bind-turn, bind-last}
@@ -17,7 +17,7 @@ use Rattle.bindings.proofs.bind_at.Tie as tie
 
 abbrev Inv-loop : tie.InvT-loop
 Inv-loop tuples i op w₀ n j₀ w j =
-    (j ≤ n) × (bind (bindingsOf w₀) (fieldsIn op) ((tupleAt tuples i) .values) ≡ bind (bindingsOf w) (drop j (fieldsIn op)) (valuesAt tuples (valuesPlace i + j * valueSize) (n - j)))
+    (j ≤ n) × (bind (bindingsOf w₀) (fieldsIn op) ((tupleAt tuples i) .values) ≡ bind (bindingsOf w) (drop j (fieldsIn op)) (valuesFrom tuples i n j))
 
 abbrev μ-loop : tie.MeasureT-loop
 μ-loop tuples i op w₀ n j₀ w j = n - j
@@ -68,7 +68,7 @@ returns c =
     let l = c .before in
     let start = l .before .before in
     let end : l .loop .j ≡ start .args .t3 .count = omega (arith, l .loop .inv .0, c .loop-test .left) in
-    sym (rw end at (l .loop .inv .1) ∙ bind-last (bindingsOf (l .loop .w)) (start .args .t3 .fields) (now (start .args .tuples)) _ (start .args .t3 .count) (few start))
+    sym (rw end at (l .loop .inv .1) ∙ bind-last (bindingsOf (l .loop .w)) (start .args .t3 .fields) _ (start .args .t3 .count) (few start))
 
 pub bind-at-spec : {M : Type 1} → statement M
 bind-at-spec =

@@ -1,11 +1,10 @@
 -- `matching::fields_hit` meets its contract. Assumes nothing.
-use Prim.Native.Nat.{_+_, _*_, _-_, _≤_}
+use Prim.Native.Nat.{_-_, _≤_}
 use native.Mathlib.Nat.{zero-mul, add-zero, sub-zero}
 use native.Mathlib.Omega.{arith}
 use mathlib.Core.Path.{_≡_, sym, _∙_}
 use borrow.Author.Tests.{not-true, not-false}
-use Rattle.basis.specs.Sizes.{valueSize}
-use Rattle.tuples.specs.Entry.{valuesAt, valuesPlace, valuesIn, eachField}
+use Rattle.tuples.specs.Entry.{valuesIn, valuesFrom, eachField}
 use Rattle.tuples.specs.PlaceLaws.{each-miss, each-more, each-end}
 use Rattle.matching.specs.Hits.{fieldHits}
 use borrow.Author.Needs.{needs}
@@ -15,7 +14,7 @@ use Rattle.matching.proofs.fields_hit.Tie as tie
 abbrev Inv-loop : tie.InvT-loop
 Inv-loop tuples i template f₀ f =
     (f ≤ template .count)
-    × (eachField (fieldHits template) 0 (valuesIn tuples i (template .count)) ≡ eachField (fieldHits template) f (valuesAt tuples (valuesPlace i + f * valueSize) (template .count - f)))
+    × (eachField (fieldHits template) 0 (valuesIn tuples i (template .count)) ≡ eachField (fieldHits template) f (valuesFrom tuples i (template .count) f))
 
 abbrev μ-loop : tie.MeasureT-loop
 μ-loop tuples i template f₀ f = template .count - f
@@ -32,7 +31,7 @@ returns c =
     let turn = call .before in
     let l = turn .before .before in
     let a = l .before .before .args in
-    sym (l .loop .inv .1 ∙ each-miss (fieldHits (a .template)) (a .tuples .now) (valuesPlace (a .i)) (a .template .count) (l .loop .f) (turn .if1 .taken) (sym (call .field-hits .ensures) ∙ not-true _ (c .if2 .taken)))
+    sym (l .loop .inv .1 ∙ each-miss (fieldHits (a .template)) (a .tuples .now) (a .i) (a .template .count) (l .loop .f) (turn .if1 .taken) (sym (call .field-hits .ensures) ∙ not-true _ (c .if2 .taken)))
 
 add-f : tie.Need-add-f Inv-loop μ-loop
 add-f c = search needs
@@ -46,13 +45,13 @@ loop-again c =
     let turn = call .before in
     let l = turn .before .before in
     let a = l .before .before .args in
-    (omega arith, l .loop .inv .1 ∙ each-more (fieldHits (a .template)) (a .tuples .now) (valuesPlace (a .i)) (a .template .count) (l .loop .f) (turn .if1 .taken) (sym (call .field-hits .ensures) ∙ not-false _ (c .if2 .left)))
+    (omega arith, l .loop .inv .1 ∙ each-more (fieldHits (a .template)) (a .tuples .now) (a .i) (a .template .count) (l .loop .f) (turn .if1 .taken) (sym (call .field-hits .ensures) ∙ not-false _ (c .if2 .left)))
 
 returns-2 : tie.Need-returns-2 Inv-loop μ-loop
 returns-2 c =
     let l = c .before .before in
     let a = l .before .before .args in
-    sym (l .loop .inv .1 ∙ each-end (fieldHits (a .template)) (a .tuples .now) (valuesPlace (a .i)) (a .template .count) (l .loop .f) (c .if1 .left))
+    sym (l .loop .inv .1 ∙ each-end (fieldHits (a .template)) (a .tuples .now) (a .i) (a .template .count) (l .loop .f) (c .if1 .left))
 
 pub fields-hit-spec : {M : Type 1} → statement M
 fields-hit-spec =

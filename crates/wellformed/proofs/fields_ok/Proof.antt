@@ -1,11 +1,11 @@
 -- `wellformed::fields_ok` meets its contract. Assumes nothing.
-use Prim.Native.Nat.{_+_, _*_, _-_, _≤_}
+use Prim.Native.Nat.{_-_, _≤_}
 use native.Mathlib.Nat.{zero-mul, add-zero}
 use native.Mathlib.Omega.{arith}
 use mathlib.Core.Path.{_≡_, sym, _∙_}
 use borrow.Author.Tests.{not-true, not-false}
-use Rattle.basis.specs.Sizes.{mostFields, valueSize}
-use Rattle.tuples.specs.Entry.{valuesAt, valuesPlace, valuesIn, eachField}
+use Rattle.basis.specs.Sizes.{mostFields}
+use Rattle.tuples.specs.Entry.{valuesIn, valuesFrom, eachField}
 use Rattle.tuples.specs.PlaceLaws.{each-miss, each-more, each-end}
 use Rattle.wellformed.specs.Fields.{fieldOkAt}
 use borrow.Author.Needs.{needs}
@@ -14,7 +14,7 @@ use Rattle.wellformed.proofs.fields_ok.Tie as tie
 
 abbrev Inv-loop : tie.InvT-loop
 Inv-loop tuples i count f₀ f =
-    (f ≤ mostFields) × (eachField (fieldOkAt count) 0 (valuesIn tuples i mostFields) ≡ eachField (fieldOkAt count) f (valuesAt tuples (valuesPlace i + f * valueSize) (mostFields - f)))
+    (f ≤ mostFields) × (eachField (fieldOkAt count) 0 (valuesIn tuples i mostFields) ≡ eachField (fieldOkAt count) f (valuesFrom tuples i mostFields f))
 
 abbrev μ-loop : tie.MeasureT-loop
 μ-loop tuples i count f₀ f = mostFields - f
@@ -31,7 +31,7 @@ returns c =
     let turn = call .before in
     let l = turn .before in
     let a = l .before .before .args in
-    sym (l .loop .inv .1 ∙ each-miss (fieldOkAt (a .count)) (a .tuples .now) (valuesPlace (a .i)) mostFields (l .loop .f) (turn .loop-test .taken) (sym (call .field-ok .ensures) ∙ not-true _ (c .if1 .taken)))
+    sym (l .loop .inv .1 ∙ each-miss (fieldOkAt (a .count)) (a .tuples .now) (a .i) mostFields (l .loop .f) (turn .loop-test .taken) (sym (call .field-ok .ensures) ∙ not-true _ (c .if1 .taken)))
 
 add-f : tie.Need-add-f Inv-loop μ-loop
 add-f c = search needs
@@ -45,13 +45,13 @@ loop-again c =
     let turn = call .before in
     let l = turn .before in
     let a = l .before .before .args in
-    (omega arith, l .loop .inv .1 ∙ each-more (fieldOkAt (a .count)) (a .tuples .now) (valuesPlace (a .i)) mostFields (l .loop .f) (turn .loop-test .taken) (sym (call .field-ok .ensures) ∙ not-false _ (c .if1 .left)))
+    (omega arith, l .loop .inv .1 ∙ each-more (fieldOkAt (a .count)) (a .tuples .now) (a .i) mostFields (l .loop .f) (turn .loop-test .taken) (sym (call .field-ok .ensures) ∙ not-false _ (c .if1 .left)))
 
 returns-2 : tie.Need-returns-2 Inv-loop μ-loop
 returns-2 c =
     let l = c .before in
     let a = l .before .before .args in
-    sym (l .loop .inv .1 ∙ each-end (fieldOkAt (a .count)) (a .tuples .now) (valuesPlace (a .i)) mostFields (l .loop .f) (c .loop-test .left))
+    sym (l .loop .inv .1 ∙ each-end (fieldOkAt (a .count)) (a .tuples .now) (a .i) mostFields (l .loop .f) (c .loop-test .left))
 
 pub fields-ok-spec : {M : Type 1} → statement M
 fields-ok-spec =
