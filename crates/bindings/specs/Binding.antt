@@ -1,6 +1,6 @@
 -- What a template binds at a tuple's values, field by field. Assumes nothing.
 use mathlib.Core.Path.{_≡_, refl, sym, _∙_}
-use Prim.Native.Nat.{ℕ, zero, suc, _+_, _-_, _≤_, _<_}
+use Prim.Native.Nat.{ℕ, zero, suc, _+_, _≤_, _<_}
 use native.Mathlib.Omega.{arith}
 use mathlib.Core.Bool.{true}
 use mathlib.Core.Option.{some}
@@ -15,7 +15,7 @@ use Rattle.statements.specs.declared.Field.{Field}
 use Rattle.statements.specs.Flat.{fieldOf, fieldIs, fieldsAre}
 use Rattle.tuples.specs.Section.{tupleAt}
 use Rattle.tuples.specs.Entry.{valueAt, valueIn, valuesFrom}
-use Rattle.tuples.specs.PlaceLaws.{values-of, values-first, values-next}
+use Rattle.tuples.specs.PlaceLaws.{values-of, from-first, from-next}
 use Rattle.bindings.specs.Fields.{fields-drop, fields-past}
 use Rattle.bindings.specs.declared.Vars.{Vars}
 use Rattle.bindings.specs.Variables.{bindings, bindingsOf, bindings-set, bindings-length, Sixteen}
@@ -55,7 +55,7 @@ module _ (v : Vars) (f : Field) (u : Value) where
 -- before the first: the values of the tuple
 pub bind-first : (bs : Bindings) (fs : List Model.Field) (p : List ℕ) (i n : ℕ) → length ((tupleAt p i) .values) ≡ n → n ≤ mostFields
     → bind bs fs ((tupleAt p i) .values) ≡ bind bs (drop 0 fs) (valuesFrom p i n 0)
-bind-first bs fs p i n e h = rw (values-first p i n, values-of p i n e h)
+bind-first bs fs p i n e h = rw (from-first p i n, values-of p i n e h)
 
 -- one field bound, the rest to bind
 pub bind-turn : (bs bs′ : Bindings) (l : List Field) (d : Field) (p : List ℕ) (i n j kind bits : ℕ) → j < n → n ≤ length l
@@ -63,7 +63,7 @@ pub bind-turn : (bs bs′ : Bindings) (l : List Field) (d : Field) (p : List ℕ
     → bind bs (drop j (fieldsAre (take n l))) (valuesFrom p i n j)
     ≡ bind bs′ (drop (j + 1) (fieldsAre (take n l))) (valuesFrom p i n (j + 1))
 unfolding bind valueAt
-bind-turn bs bs′ l d p i n j kind bits h k e q b = rw (fields-drop l n j d h k, values-next p i n j h, b, e, q)
+bind-turn bs bs′ l d p i n j kind bits h k e q b = rw (fields-drop l n j d h k, from-next p i n j h, b, e, q)
 
 -- after the last
 pub bind-last : (bs : Bindings) (l : List Field) (vs : List Value) (n : ℕ) → n ≤ length l → bind bs (drop n (fieldsAre (take n l))) vs ≡ bs

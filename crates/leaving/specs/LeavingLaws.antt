@@ -1,13 +1,13 @@
 -- The waiting statement at an index of a stored run, and a copy of its body. Assumes nothing.
 use mathlib.Core.Path.{_≡_, refl, sym, ap, subst, _∙_}
-use Prim.Native.Nat.{ℕ, _≤_, _<_}
+use Prim.Native.Nat.{ℕ, _+_, _≤_, _<_}
 use native.Mathlib.Omega.{arith}
 use mathlib.Core.List.{List}
 use lib.ListN.{length, take, drop, getD, length-drop}
 use lib.Seq.{length-take-le, take-at}
 use lib.Dec.{T}
 use Rattle.basis.specs.ListLaws.{Each}
-use Rattle.basis.specs.Sizes.{mostBody, mostWaiting}
+use Rattle.basis.specs.Sizes.{mostBody, mostWaiting, waitingSize}
 use Rattle.model.specs.Legal.{legalBody}
 use Rattle.model.specs.Run.{Waiting, isOpen}
 use Rattle.model.specs.Statement.{spacesNamed}
@@ -17,15 +17,16 @@ use Rattle.words.specs.Over.{over}
 use Rattle.words.specs.OverLaws.{over-take, over-front}
 use Rattle.sections.specs.Shapes.{getD-member}
 use Rattle.queue.specs.Queue.{IsQueued}
-use Rattle.queue.specs.PlaceLaws.{noWaiting, waitingNth, rowEnd, bodyPlace, bodySize, bodyOf, Stands, stands, rowPosition}
+use Rattle.queue.specs.PlaceLaws.{noWaiting, waitingNth, bodyPlace, bodySize, bodyOf, Stands, stands, rowPosition}
 use Rattle.header.specs.Rows.{queueLent}
 use Rattle.lent.specs.Sections.{queue-read, is-queued}
 use Rattle.queue.specs.Bodies.{row-within, bytes-legal, bytes-statement}
+use Rattle.sections.specs.Rows.{HasRows}
 use Rattle.leaving.specs.Leaving.{place, without, Gone}
 
 -- ---- a body copied
 
-pub copied : (p d l : List ℕ) (i n from : ℕ) → rowEnd i ≤ length p → n ≤ mostBody → mostBody ≤ length d → n ≡ bodySize p i → from ≡ bodyPlace i
+pub copied : (p d l : List ℕ) (i n from : ℕ) → HasRows waitingSize p (i + 1) → n ≤ mostBody → mostBody ≤ length d → n ≡ bodySize p i → from ≡ bodyPlace i
     → l ≡ over d 0 (drop from p) n → take n l ≡ bodyOf p i
 copied p d l i n from row small room e f o =
     let back : List ℕ = drop from p in
@@ -42,7 +43,7 @@ module _ (b : List ℕ) (i : ℕ) (h : IsStored b) (below : i < length ((decode 
   queued : IsQueued (queueLent b) count
   queued = is-queued b count h refl
 
-  pub row : rowEnd i ≤ length (queueLent b)
+  pub row : HasRows waitingSize (queueLent b) (i + 1)
   row = row-within (queueLent b) count i queued below
 
   pub few : i < mostWaiting

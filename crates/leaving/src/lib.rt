@@ -1,11 +1,12 @@
 // A waiting statement of a state leaves the queue.
 ghost use mathlib.Core.Path.{_≡_};
-ghost use Prim.Native.Nat.{_≤_, _<_};
+ghost use Prim.Native.Nat.{_+_, _≤_, _<_};
 ghost use lib.ListN.{length, take};
-ghost use Rattle.basis.specs.Sizes.{mostBody, mostWaiting};
+ghost use Rattle.basis.specs.Sizes.{mostBody, mostWaiting, waitingSize};
 ghost use Rattle.layout.specs.States.{decode};
 ghost use Rattle.layout.specs.Stored.{IsStored};
-ghost use Rattle.queue.specs.PlaceLaws.{rowEnd, bodySize, bodyOf};
+ghost use Rattle.queue.specs.PlaceLaws.{bodySize, bodyOf};
+ghost use Rattle.sections.specs.Rows.{HasRows};
 ghost use Rattle.leaving.specs.Leaving.{Gone};
 
 // Who has left: the position of its record, and the length of its body.
@@ -16,7 +17,7 @@ pub struct Leaver {
 
 // The body of the waiting statement at an index, copied; its length.
 fn copy_body(waiting: &[u8], i: usize, body: &mut [u8]) -> usize
-    requires { ⌜ (rowEnd i ≤ length (now waiting)) × (i < mostWaiting) × (bodySize (now waiting) i ≤ mostBody) × (mostBody ≤ length (now body)) ⌝ }
+    requires { ⌜ HasRows waitingSize (now waiting) (i + 1) × (i < mostWaiting) × (bodySize (now waiting) i ≤ mostBody) × (mostBody ≤ length (now body)) ⌝ }
     ensures { λ r. ⌜ (r ≤ mostBody) × (take r (now (body .exit)) ≡ bodyOf (now (waiting .entry)) i) ⌝ }
 {
     let size = queue::body_length(waiting, i);

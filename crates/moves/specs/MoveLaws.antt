@@ -20,7 +20,7 @@ use Rattle.model.specs.Valid.{legalTuple}
 use Rattle.layout.specs.States.{tupleRead}
 use Rattle.words.specs.Over.{over}
 use Rattle.words.specs.OverLaws.{over-split, over-left, over-right, over-length, take-over-past}
-use Rattle.sections.specs.Rows.{Rows, HasRows, rowsFrom, withRows}
+use Rattle.sections.specs.Rows.{Rows, HasRows, rowsFrom, rowsOver}
 use Rattle.sections.specs.RowLaws.{pieces-at}
 use Rattle.sections.specs.Loops.{keep-yes, keep-no, Sifted}
 use Rattle.sections.specs.Shapes.{items-length, holds-length, holds-count, holds-keep}
@@ -88,7 +88,7 @@ module _ (t : Template) (to : ℕ) (p b : List ℕ) (n h i : ℕ) (s : Section p
   gather-no e = rw (read-take p n i k, keep-no (selectsBy t) (take i (tuplesOf p n)) (tupleAt p i) e) f
 
   pub gather-yes : (c : List ℕ) → HasRows tupleSize b (h + 1) → selectsBy t (tupleAt p i) ≡ true
-      → c ≡ withRows tupleSize b h (withSpace to (rowsFrom tupleSize p i)) 1 → FirstRows tupleShape c (h + 1) (relocated t to (take (i + 1) (tuplesOf p n)))
+      → c ≡ rowsOver tupleSize b h (withSpace to (rowsFrom tupleSize p i)) 1 → FirstRows tupleShape c (h + 1) (relocated t to (take (i + 1) (tuplesOf p n)))
   unfolding relocated
   gather-yes c room e stored =
       let ts : List Tuple = take i (tuplesOf p n) in
@@ -126,7 +126,7 @@ moved-count t to p a b n m h o f = omega (arith, holds-count tupleShape a m (oth
 
 -- move
 pub moved-is : (t : Template) (to : ℕ) (p a q b : List ℕ) (n m h : ℕ) → Section p n → to < spaceNumbers → Holds a m (others t (tuplesOf p n)) → FirstRows tupleShape b h (relocated t to (tuplesOf p n))
-    → q ≡ withRows tupleSize a m b h → Holds q n (moved (selectsBy t) to (tuplesOf p n))
+    → q ≡ rowsOver tupleSize a m b h → Holds q n (moved (selectsBy t) to (tuplesOf p n))
 unfolding moved others relocated
 moved-is t to p a q b n m h s small o f stored =
     let e : m + h ≡ n = moved-count t to p a b n m h o f in
@@ -137,6 +137,6 @@ module _ (t : Template) (to : ℕ) (p b : List ℕ) (n h : ℕ) (s : Section p n
   pub copied-full : mostTuples - n < h → Copies Full p p n (relocated t to (tuplesOf p n))
   copied-full k = (omega (arith, f .count, s .few), refl)
 
-  pub copied-now : (q : List ℕ) → h ≤ mostTuples - n → q ≡ withRows tupleSize p n b h → Copies (Now (n + h)) p q n (relocated t to (tuplesOf p n))
+  pub copied-now : (q : List ℕ) → h ≤ mostTuples - n → q ≡ rowsOver tupleSize p n b h → Copies (Now (n + h)) p q n (relocated t to (tuplesOf p n))
   copied-now q k stored =
       (omega (arith, f .count), holds-added tupleShape p q b n h (tuplesOf p n) (relocated t to (tuplesOf p n)) s (omega (arith, s .few)) (relocated-legal t to (tuplesOf p n) small (s .lawful)) f stored)

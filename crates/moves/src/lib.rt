@@ -7,7 +7,7 @@ ghost use Rattle.model.specs.Execution.{moved};
 ghost use Rattle.sections.specs.FirstRows.{FirstRows};
 ghost use Rattle.tuples.specs.Section.{tupleShape, tupleAt, tuplesOf, Holds, Section};
 ghost use Rattle.matching.specs.Hits.{selectsBy};
-ghost use Rattle.sections.specs.Rows.{HasRows, rowsFrom, withRows};
+ghost use Rattle.sections.specs.Rows.{HasRows, rowsFrom, rowsOver};
 ghost use Rattle.tuples.specs.Entry.{withSpace};
 ghost use Rattle.moves.specs.Moves.{others, relocated, Copies};
 use matching::Template;
@@ -52,7 +52,7 @@ fn keep_others(tuples: &mut [u8], n: usize, template: Template) -> usize
 // The tuple at index i, in the space `to`, as the row at index h of `held`.
 fn hold(held: &mut [u8], h: usize, tuples: &[u8], i: usize, to: u16)
     requires { ⌜ HasRows tupleSize (now held) (h + 1) × HasRows tupleSize (now tuples) (i + 1) ⌝ }
-    ensures { λ _. ⌜ now (held .exit) ≡ withRows tupleSize (now (held .entry)) h (withSpace to (rowsFrom tupleSize (now (tuples .entry)) i)) 1 ⌝ }
+    ensures { λ _. ⌜ now (held .exit) ≡ rowsOver tupleSize (now (held .entry)) h (withSpace to (rowsFrom tupleSize (now (tuples .entry)) i)) 1 ⌝ }
 {
     tuples::copy_rows(held, h, tuples, i, 1);
     tuples::set_space(held, h, to);

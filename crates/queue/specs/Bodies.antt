@@ -7,13 +7,14 @@ use mathlib.Core.List.{List}
 use lib.ListN.{length, take, drop}
 use lib.Dec.{T}
 use Rattle.basis.specs.Choice.{isSome}
-use Rattle.basis.specs.Sizes.{mostBody}
+use Rattle.basis.specs.Sizes.{mostBody, waitingSize}
 use Rattle.model.specs.Statement.{Statement}
 use Rattle.model.specs.Legal.{parse, legalBody}
 use Rattle.layout.specs.Stored.{statementOf, statement-of}
 use Rattle.sections.specs.Shapes.{holds-length}
+use Rattle.sections.specs.Rows.{HasRows}
 use Rattle.queue.specs.Queue.{waitingShape, waitingOf, IsQueued}
-use Rattle.queue.specs.PlaceLaws.{waitingNth, rowEnd, bodyPlace, bodySize, bodyOf, stands}
+use Rattle.queue.specs.PlaceLaws.{waitingNth, bodyPlace, bodySize, bodyOf, stands}
 
 legal-of : (b : List ℕ) (st : Statement) → parse b ≡ some st → T (legalBody b)
 unfolding legalBody isSome
@@ -21,7 +22,7 @@ legal-of b st e = rw e tt
 
 module _ (p : List ℕ) (n i : ℕ) (h : IsQueued p n) (below : i < n) where
   -- its row stands within the section
-  pub row-within : rowEnd i ≤ length p
+  pub row-within : HasRows waitingSize p (i + 1)
   row-within = omega (arith, holds-length waitingShape p n (waitingOf p n) h, h .few)
 
   pub bytes-legal : T (legalBody (bodyOf p i))

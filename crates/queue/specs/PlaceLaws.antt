@@ -29,10 +29,7 @@ noWaiting = waits 0 noStatement
 abbrev pub waitingNth : List ℕ → (n i : ℕ) → Waiting
 waitingNth p n i = getD (waitingOf p n) i noWaiting
 
--- where its row ends, and where its body begins
-abbrev pub rowEnd : ℕ → ℕ
-rowEnd i = (i + 1) * waitingSize
-
+-- where its body begins
 abbrev pub bodyPlace : ℕ → ℕ
 bodyPlace i = i * waitingSize + waitingBodyAt
 

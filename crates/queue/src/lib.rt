@@ -1,6 +1,6 @@
 // The waiting statements of a state: rows that say position, length and body.
 ghost use mathlib.Core.Path.{_≡_};
-ghost use Prim.Native.Nat.{_+_, _-_, _*_, _^_, _≤_, _<_};
+ghost use Prim.Native.Nat.{_+_, _-_, _^_, _≤_, _<_};
 ghost use mathlib.Core.List.{[], _∷_, _++_};
 ghost use lib.ListN.{length, getD};
 ghost use lib.Dec.{T};
@@ -11,7 +11,7 @@ ghost use Rattle.layout.specs.Stored.{statementOf};
 ghost use Rattle.sections.specs.Rows.{HasRows, unusedZero};
 ghost use Rattle.queue.specs.Queue.{waitingOf, Queued, IsQueued, ofOther, ofProcess, waits};
 ghost use Rattle.queue.specs.QueueLaws.{rowBytes};
-ghost use Rattle.queue.specs.PlaceLaws.{waitingNth, rowEnd, bodyPlace, bodySize, rowPosition};
+ghost use Rattle.queue.specs.PlaceLaws.{waitingNth, bodyPlace, bodySize, rowPosition};
 ghost use Rattle.queue.specs.Legal.{bodyFits, inOrder, otherProcess};
 
 const ROW: usize = words::WAITING;
@@ -20,7 +20,7 @@ const ROW: usize = words::WAITING;
 
 // The position of the waiting statement at index i.
 pub fn position(waiting: &[u8], i: usize) -> u32
-    requires { ⌜ rowEnd i ≤ length (now waiting) ⌝ }
+    requires { ⌜ HasRows waitingSize (now waiting) (i + 1) ⌝ }
     ensures { λ r. ⌜ r ≡ rowPosition (now (waiting .entry)) i ⌝ }
 {
     words::word4(waiting, i * ROW)
@@ -36,7 +36,7 @@ pub fn body_at(i: usize) -> usize
 
 // The length of its body.
 pub fn body_length(waiting: &[u8], i: usize) -> usize
-    requires { ⌜ rowEnd i ≤ length (now waiting) ⌝ }
+    requires { ⌜ HasRows waitingSize (now waiting) (i + 1) ⌝ }
     ensures { λ r. ⌜ (r ≡ bodySize (now (waiting .entry)) i) × (r < 256 ^ lengthWidth) ⌝ }
 {
     words::word2(waiting, i * ROW + words::WAITING_LENGTH_AT) as usize

@@ -1,6 +1,6 @@
 // What is found by looking through the rows of a section: the first with a number, numbers that rise, numbers that differ, zeros past the rows.
 ghost use mathlib.Core.Path.{_≡_};
-ghost use Prim.Native.Nat.{_+_, _*_, _-_, _≤_, _<_};
+ghost use Prim.Native.Nat.{_+_, _≤_, _<_};
 ghost use mathlib.Core.List.{[]};
 ghost use lib.ListN.{drop, getD};
 ghost use Rattle.basis.specs.Lists.{all, pairwise, pieces};

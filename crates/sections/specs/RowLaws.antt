@@ -18,7 +18,7 @@ pub use Rattle.basis.specs.NumberLaws.{bytes-of}
 use Rattle.words.specs.Over.{over, zerosAt}
 use Rattle.words.specs.OverLaws.{over-mid, over-append}
 use Rattle.words.specs.ZeroLaws.{zerosAt→zeros, zeros→zerosAt}
-use Rattle.sections.specs.Rows.{joined, Wides, Rows, Section}
+use Rattle.sections.specs.Rows.{joined, Wides, Rows, Section, HasRows, unusedZero}
 
 -- ---- products with a size that is any
 
@@ -127,7 +127,7 @@ pieces-bytes (suc n) w l t = each-cons (λ (r : List ℕ). T (areBytes r)) (take
 -- ---- a section
 
 -- any bytes are one whose last bytes are zero
-pub section-of : (size n : ℕ) (p : List ℕ) → n * size ≤ length p → T (zerosAt p (n * size) (length p - n * size)) → Section size p n
+pub section-of : (size n : ℕ) (p : List ℕ) → HasRows size p n → T (unusedZero size p n) → Section size p n
 section-of size n p h t =
     let k : ℕ = n * size in
     let z : drop k p ≡ zeros (length p - k) = sym (take-all (length p - k) (drop k p) (simp length-drop (omega arith))) ∙ zerosAt→zeros p k (length p - k) (omega arith) t in
@@ -155,7 +155,7 @@ module _ (whole size : ℕ) (p : List ℕ) (n : ℕ) (rs : List (List ℕ)) (h :
   section = rw (rows-length, rows-read) h
 
 -- past its rows are zeros
-pub section-unused : (size n : ℕ) (p : List ℕ) → Section size p n → T (zerosAt p (n * size) (length p - n * size))
+pub section-unused : (size n : ℕ) (p : List ℕ) → Section size p n → T (unusedZero size p n)
 section-unused size n p s =
     zeros→zerosAt p (n * size) (length p - n * size)
     (take-all (length p - n * size) (drop (n * size) p) (simp length-drop (omega arith)) ∙ rows-rest (length p) size p n (pieces n size p) s)

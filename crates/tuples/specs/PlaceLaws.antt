@@ -69,27 +69,27 @@ values-of p i c e h =
 
 module _ (p : List ℕ) (i n f : ℕ) where
   -- one, and those after it
-  pub values-next : f < n → valuesFrom p i n f ≡ valueIn p i f ∷ valuesFrom p i n (f + 1)
+  pub from-next : f < n → valuesFrom p i n f ≡ valueIn p i f ∷ valuesFrom p i n (f + 1)
   unfolding valuesAt
-  values-next h =
+  from-next h =
       let e : n - f ≡ suc (n - (f + 1)) = omega arith in
       let k : valuesPlace i + (f + 1) * valueSize ≡ valuesPlace i + f * valueSize + valueSize = omega arith in
       rw (e, k)
 
   -- none is left
-  pub values-end : n ≤ f → valuesFrom p i n f ≡ []
+  pub from-end : n ≤ f → valuesFrom p i n f ≡ []
   unfolding valuesAt
-  values-end h = let e : n - f ≡ 0 = omega arith in rw e
+  from-end h = let e : n - f ≡ 0 = omega arith in rw e
 
-pub values-first : (p : List ℕ) (i n : ℕ) → valuesFrom p i n 0 ≡ valuesIn p i n
-values-first p i n = simp (zero-mul, add-zero, sub-zero)
+pub from-first : (p : List ℕ) (i n : ℕ) → valuesFrom p i n 0 ≡ valuesIn p i n
+from-first p i n = simp (zero-mul, add-zero, sub-zero)
 
 -- ---- a test of each value, from field f on
 
 module _ (test : ℕ → Value → Bool) (p : List ℕ) (i n f : ℕ) where
   each-step : f < n → eachField test f (valuesFrom p i n f) ≡ (test f (valueIn p i f) && eachField test (f + 1) (valuesFrom p i n (f + 1)))
   unfolding eachField
-  each-step h = rw (values-next p i n f h, add-one f)
+  each-step h = rw (from-next p i n f h, add-one f)
 
   -- one that fails
   pub each-miss : f < n → test f (valueIn p i f) ≡ false → eachField test f (valuesFrom p i n f) ≡ false
@@ -102,4 +102,4 @@ module _ (test : ℕ → Value → Bool) (p : List ℕ) (i n f : ℕ) where
   -- the end
   pub each-end : n ≤ f → eachField test f (valuesFrom p i n f) ≡ true
   unfolding eachField
-  each-end h = rw (values-end p i n f h)
+  each-end h = rw (from-end p i n f h)

@@ -1,6 +1,6 @@
 // Which rows of the tuples are the entries of legal tuples, and the zeros past them, for the test of a state.
 ghost use mathlib.Core.Path.{_≡_};
-ghost use Prim.Native.Nat.{_+_, _-_, _<_};
+ghost use Prim.Native.Nat.{_+_, _<_};
 ghost use Rattle.basis.specs.Sizes.{mostFields, tupleSize};
 ghost use Rattle.tuples.specs.Section.{entryAt};
 ghost use Rattle.tuples.specs.Entry.{isEntry, valueIn, valuesIn, eachField};

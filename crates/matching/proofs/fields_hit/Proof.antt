@@ -1,11 +1,10 @@
 -- `matching::fields_hit` meets its contract. Assumes nothing.
 use Prim.Native.Nat.{_-_, _≤_}
-use native.Mathlib.Nat.{zero-mul, add-zero, sub-zero}
 use native.Mathlib.Omega.{arith}
-use mathlib.Core.Path.{_≡_, sym, _∙_}
+use mathlib.Core.Path.{_≡_, sym, ap, _∙_}
 use borrow.Author.Tests.{not-true, not-false}
 use Rattle.tuples.specs.Entry.{valuesIn, valuesFrom, eachField}
-use Rattle.tuples.specs.PlaceLaws.{each-miss, each-more, each-end}
+use Rattle.tuples.specs.PlaceLaws.{from-first, each-miss, each-more, each-end}
 use Rattle.matching.specs.Hits.{fieldHits}
 use borrow.Author.Needs.{needs}
 use Rattle.matching.proofs.fields_hit.Statement.{statement}
@@ -20,7 +19,7 @@ abbrev μ-loop : tie.MeasureT-loop
 μ-loop tuples i template f₀ f = template .count - f
 
 loop-holds : tie.Need-loop-holds Inv-loop μ-loop
-loop-holds c = (omega arith, simp (zero-mul, add-zero, sub-zero))
+loop-holds c = let a = c .before .args in (omega arith, ap (eachField (fieldHits (a .template)) 0) (sym (from-first (a .tuples .now) (a .i) (a .template .count))))
 
 field-hits-requires : tie.Need-field-hits-requires Inv-loop μ-loop
 field-hits-requires c κs = search needs

@@ -1,12 +1,11 @@
 -- `wellformed::fields_ok` meets its contract. Assumes nothing.
 use Prim.Native.Nat.{_-_, _≤_}
-use native.Mathlib.Nat.{zero-mul, add-zero}
 use native.Mathlib.Omega.{arith}
-use mathlib.Core.Path.{_≡_, sym, _∙_}
+use mathlib.Core.Path.{_≡_, sym, ap, _∙_}
 use borrow.Author.Tests.{not-true, not-false}
 use Rattle.basis.specs.Sizes.{mostFields}
 use Rattle.tuples.specs.Entry.{valuesIn, valuesFrom, eachField}
-use Rattle.tuples.specs.PlaceLaws.{each-miss, each-more, each-end}
+use Rattle.tuples.specs.PlaceLaws.{from-first, each-miss, each-more, each-end}
 use Rattle.wellformed.specs.Fields.{fieldOkAt}
 use borrow.Author.Needs.{needs}
 use Rattle.wellformed.proofs.fields_ok.Statement.{statement}
@@ -20,7 +19,7 @@ abbrev μ-loop : tie.MeasureT-loop
 μ-loop tuples i count f₀ f = mostFields - f
 
 loop-holds : tie.Need-loop-holds Inv-loop μ-loop
-loop-holds c = (omega arith, simp (zero-mul, add-zero))
+loop-holds c = let a = c .before .args in (omega arith, ap (eachField (fieldOkAt (a .count)) 0) (sym (from-first (a .tuples .now) (a .i) mostFields)))
 
 field-ok-requires : tie.Need-field-ok-requires Inv-loop μ-loop
 field-ok-requires c κs = search needs
