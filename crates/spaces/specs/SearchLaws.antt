@@ -68,8 +68,8 @@ pub record Among (p : List ℕ) (n m low left : ℕ) : Type 0 where
   pub above : (j : ℕ) → low + left ≤ j → j < n → m < numberIn (spacesOf p n) j
   pub below : 0 < low → numberIn (spacesOf p n) low ≤ m
 
-pub among-all : (p : List ℕ) (n m : ℕ) → n ≤ mostSpaces → Among p n m 0 mostSpaces
-among-all p n m few = record { room = omega arith; some = λ h. h; above = λ j k l. absurd (omega arith); below = λ h. absurd (omega arith) }
+pub among-all : (p : List ℕ) (n m left : ℕ) → n ≤ left → left ≤ mostSpaces → Among p n m 0 left
+among-all p n m left all few = record { room = omega arith; some = λ h. h; above = λ j k l. absurd (omega arith); below = λ h. absurd (omega arith) }
 
 -- there is a space at an index, whose number is not above m
 unfoldable pub reached : (ss : List Space) (n m i : ℕ) → Bool
