@@ -35,8 +35,7 @@ fn reaches(spaces: &[u8], n: usize, i: usize, number: u16) -> bool
 }
 
 // The index of the space of a number, where numbers rise; n, where it is not open. One space is compared; otherwise what is left from index
-// `low` on is halved. Halving begins with room for all spaces, so that it always has the same few steps, and no jump in them depends on the
-// number.
+// `low` on is halved. Halving begins with room for all spaces, so that it always has the same few steps.
 fn place(spaces: &[u8], n: usize, number: u16) -> usize
     requires { ⌜ HasRows spaceSize (now spaces) n × (n ≤ mostSpaces) × Rising (spacesOf (now spaces) n) ⌝ }
     ensures { λ r. ⌜ r ≡ indexOf (numbered number) (spacesOf (now (spaces .entry)) n) ⌝ }
