@@ -1,8 +1,8 @@
 /*
  * replica.h - one replica of the replicated tuple space, for cabinet firmware in C.
  *
- * Link with libreplica.a (x86-64). The library keeps nothing between calls: it has no variables of its own, takes no
- * memory, starts no thread, calls no function of the C library but memcpy, memmove and memset, and always returns.
+ * Link with libreplica.a. The library keeps nothing between calls: it has no variables of its own, takes no memory,
+ * starts no thread, calls no function but memcpy, memmove and memset, and always returns.
  *
  * A replica lives in a state buffer that the caller lends. Records arrive numbered 1, 2, 3, .. and are handed in one
  * by one; each gives the replies to be sent. Replicas that took the same records have the same state, byte for byte.
@@ -17,9 +17,25 @@
  *    an empty body nothing can be begun. A pointer fill is never null, and is aligned as a size_t is.
  *  - Calls on one state or one body must not run at once. Calls on different ones may.
  *  - A call needs at most REPLICA_STACK_BYTES bytes of stack.
+ *
+ * Conditions of use. The compiler sees to the first alone; no call can notice that another is broken:
+ *  - x86-64 with the System V calling convention, which is not that of Windows, and with pointers of 8 bytes.
+ *  - The stack pointer is aligned to 16 bytes at each call, as that convention asks. A start-up file or a task switch
+ *    of your own has to see to it.
+ *  - The 128 bytes below the stack pointer (the red zone) belong to the call while it runs: no interrupt may share its
+ *    stack. On Linux the kernel leaves them alone; on bare metal give interrupts a stack of their own.
+ *  - memcpy, memmove and memset are yours, of a C library or written by you, and do what C says. The stack was measured
+ *    with those of glibc; what yours need beyond theirs comes on top.
+ *  - The floating-point mode is the one that a process starts with (MXCSR 0x1F80): rounding to nearest, denormals
+ *    kept, no exception unmasked. Sums of metres use it, and in another mode replicas come to differ. A program that
+ *    was linked with -ffast-math has another from its start: set it back before the call.
  */
 #ifndef REPLICA_H
 #define REPLICA_H
+
+#if !defined(__x86_64__) || defined(__ILP32__) || defined(_WIN32) || defined(__CYGWIN__)
+#error "libreplica.a is for x86-64 with the System V calling convention and pointers of 8 bytes alone"
+#endif
 
 #include <stddef.h>
 #include <stdint.h>
@@ -27,6 +43,14 @@
 #ifdef __cplusplus
 extern "C" {
 #endif
+
+/*
+ * The number of the bytes and of their meaning. Whatever changes a byte of a record, a reply or a state, or what one
+ * means, raises it; 1 is document 01's. replica_layout returns the library's own: at a fit-up compare it with the
+ * header's, and between cabinets. Cabinets whose numbers differ must not read one stream, nor copy each other's state.
+ */
+#define REPLICA_LAYOUT 1
+uint64_t replica_layout(void);
 
 #define REPLICA_STATE_BYTES 24768 /* a state buffer has exactly this length */
 #define REPLICA_REPLY_BYTES 3564  /* a reply buffer has at least this length; no call replies more */
@@ -58,20 +82,31 @@ uint64_t replica_fresh(uint8_t *state, size_t state_length);
  * Else the return is one of the numbers 1 to 5 above. The record is never changed.
  *
  *   mark  body
- *   RV    host (1): the host is up
+ *   RV    host (1, 0 to 15): the host is up
  *   CR    host (1): it has crashed
  *   MO    host (1), process (2): a new monitor number
- *   MS    host (1), process (2), kind (1, or absent: 0 shared, 1 private to the process): opens the next space number
+ *   MS    host (1), process (2), kind (1, or absent: shared): opens the next space number
  *   DS    host (1), process (2), space (1): closes the space, with its tuples
  *   AG    a statement of at most REPLICA_BODY_BYTES, as the writer below makes them
  *
  * Positions go from 1 to 4,294,967,295; after the last no record is taken.
  *
- * A call that was cut (power lost, task stopped) may leave any bytes, even bytes that pass for a state: do not use them.
- * Start again from replica_fresh, or from a whole copy of a state that another replica held between calls.
+ * A call that was cut (power lost, task stopped) may leave any bytes, and most of what it leaves passes as a state: a
+ * call that wakes a statement was stopped after each of its 42,157 instructions, and at 84 percent of them the buffer
+ * would have been taken for a state, though it was neither the one before nor the one after. Do not go on from it.
+ * Only two restarts are right: replica_fresh, or a whole copy of a state that another replica held between calls.
  */
 uint64_t replica_take(uint8_t *state, size_t state_length, const uint8_t *record, size_t record_length,
                       uint8_t *reply, size_t reply_length);
+
+/* Kinds of a space, as MS has them. */
+#define REPLICA_SPACE_SHARED 0
+#define REPLICA_SPACE_PRIVATE 1 /* to the process that opened it */
+
+/* Kinds of a value. */
+#define REPLICA_KIND_WHOLE 0  /* a signed number of 32 bits */
+#define REPLICA_KIND_NAME 1   /* 0 to 65,535 */
+#define REPLICA_KIND_METRES 2 /* an IEEE 754 number of 32 bits, finite and not negative zero */
 
 /*
  * A reply is REPLICA_REPLY_HEAD bytes, then REPLICA_REPLY_VALUE bytes for each value; the next begins where it ends.
@@ -84,7 +119,7 @@ uint64_t replica_take(uint8_t *state, size_t state_length, const uint8_t *record
  *    9    1    outcome, below
  *   10    1    branch that ran, from 1; 0 for other records and where none was chosen
  *   11    1    count of values
- *   12         values: variable (1), kind (1: 0 whole number, 1 name, 2 metres as f32), 4 bytes
+ *   12         values: variable (1), kind (1), 4 bytes
  *
  * Values come with outcome 0 alone. MO and MS give their number, RV and CR the count of hosts now up, each as variable
  * 0, a whole number; DS gives none; a statement gives its bound variables in rising number.
@@ -93,25 +128,23 @@ uint64_t replica_take(uint8_t *state, size_t state_length, const uint8_t *record
 #define REPLICA_REPLY_VALUE 6
 
 /*
- * Outcomes. Where one of 6 to 18 answers a record, its position is taken and nothing else changes. A woken statement
- * ends in 0, 12, 16 or 17, and leaves the queue whatever its outcome.
- *
- *   No.  when                                                              from
- *    0   done                                                              all
- *    6   the body is malformed (the reply shows host 255, process 65535)   all
- *    7   the host is not up                                                all but RV
- *    8   the host is up already                                            RV
- *    9   the process has a statement waiting                               MO MS DS AG
- *   10   a space that is named is not open                                 DS AG
- *   11   a space that is named is private to another process               DS AG
- *   12   there would be more than 512 tuples                               CR AG
- *   13   the statement would wait, and 32 wait                             AG
- *   14   8 monitors, 32 open spaces, or space number 255, are used up      MO MS
- *   15   it is space 0, or a waiting statement names it                    DS
- *   16   an in or rd of the body has no match                              AG
- *   17   a sum or difference is off the range, or not finite               AG
- *   18   no guard held, and none of them waits                             AG
+ * Outcomes, with the marks whose records they answer. Where one of 6 to 18 answers a record, its position is taken and
+ * nothing else changes. A woken statement ends in 0, 12, 16 or 17, and leaves the queue whatever its outcome.
  */
+#define REPLICA_OUTCOME_DONE 0            /* all: done */
+#define REPLICA_OUTCOME_MALFORMED 6       /* all: the body is malformed; the reply shows host 255, process 65535 */
+#define REPLICA_OUTCOME_HOST_DOWN 7       /* all but RV: the host is not up */
+#define REPLICA_OUTCOME_HOST_UP 8         /* RV: the host is up already */
+#define REPLICA_OUTCOME_PROCESS_WAITS 9   /* MO MS DS AG: the process has a statement waiting */
+#define REPLICA_OUTCOME_SPACE_NOT_OPEN 10 /* DS AG: a space that is named is not open */
+#define REPLICA_OUTCOME_SPACE_DENIED 11   /* DS AG: a space that is named is private to another process */
+#define REPLICA_OUTCOME_TUPLES_FULL 12    /* CR AG: there would be more than 512 tuples */
+#define REPLICA_OUTCOME_WAITING_FULL 13   /* AG: the statement would wait, and 32 wait */
+#define REPLICA_OUTCOME_USED_UP 14        /* MO MS: 8 monitors, 32 open spaces, or space number 255, are used up */
+#define REPLICA_OUTCOME_SPACE_IN_USE 15   /* DS: it is space 0, or a waiting statement names it */
+#define REPLICA_OUTCOME_NO_MATCH 16       /* AG: an in or rd of the body has no match */
+#define REPLICA_OUTCOME_OFF_RANGE 17      /* AG: a sum or difference is off the range, or not finite */
+#define REPLICA_OUTCOME_NO_GUARD 18       /* AG: no guard held, and none of them waits */
 
 /* ---- The writer */
 
@@ -125,40 +158,44 @@ uint64_t replica_take(uint8_t *state, size_t state_length, const uint8_t *record
 #define REPLICA_BODY_SHORT 2 /* the body would be legal, and the buffer is shorter than it */
 
 /*
- * A field. Parts that its form does not have are not looked at. A form above 5 is REPLICA_MALFORMED.
- *
- *   form  parts                  what                                          allowed in
- *    0    kind, bits             this value                                    1 to 7
- *    1    kind, variable         any value of the kind, bound to the variable  1 to 4
- *    2    variable               the variable's value                          1 to 7
- *    3    variable, kind, bits   the variable's value plus this value          5
- *    4    variable, kind, bits   the variable's value minus this value         5
- *    5    kind                   any value of the kind                         1 to 4, 6, 7
- *
- * Kinds are 0 whole number, 1 name, 2 metres as f32; variables are 0 to 15. The bits are the value's four bytes as a
- * number: (uint32_t)-1 is the whole number -1, 7 the name 7, 0x40400000 the metres 3.0. A name is at most 65,535;
- * metres are finite and not negative zero. A variable is bound once in a branch, and used in later operations of that
- * branch; forms 3 and 4 need it bound with their kind, which is not name.
+ * Forms of a field, with the parts that each has and the codes that allow it. Parts that a form does not have are not
+ * looked at. A form above 5 is REPLICA_MALFORMED.
+ */
+#define REPLICA_FORM_ACTUAL 0     /* kind, bits: this value; 1 to 7 */
+#define REPLICA_FORM_FORMAL 1     /* kind, variable: any value of the kind, which is bound to the variable; 1 to 4 */
+#define REPLICA_FORM_REFERENCE 2  /* variable: the variable's value; 1 to 7 */
+#define REPLICA_FORM_SUM 3        /* variable, kind, bits: the variable's value plus this value; 5 */
+#define REPLICA_FORM_DIFFERENCE 4 /* variable, kind, bits: the variable's value minus this value; 5 */
+#define REPLICA_FORM_ANONYMOUS 5  /* kind: any value of the kind; 1 to 4, 6, 7 */
+
+/*
+ * A field. Variables are 0 to 15. The bits are the value's four bytes as a number: (uint32_t)-1 is the whole number -1,
+ * 7 the name 7, 0x40400000 the metres 3.0. A variable is bound once in a branch, and used in later operations of that
+ * branch; a sum or difference needs it bound with its own kind, which is not name.
  */
 typedef struct {
     uint8_t form, kind, variable;
     uint32_t bits;
 } replica_field;
 
+typedef char replica_field_has_8_bytes[sizeof(replica_field) == 8 ? 1 : -1];
+
 /*
- * An addition: a guard or an operation. Parts that its code does not have and fields past the count are not looked at.
- *
- *   code       parts                     as
- *    0 true    none                      guard
- *    1 in      from, count 1 to 6        guard, operation
- *    2 inp     from, count 1 to 6        guard
- *    3 rd      from, count 1 to 6        guard, operation
- *    4 rdp     from, count 1 to 6        guard
- *    5 out     from, count 1 to 6        operation
- *    6 move    from, to, count 0 to 6    operation
- *    7 copy    from, to, count 0 to 6    operation
- *
- * from is the space of codes 1 to 5. Any other code, a space above 255 or another count is REPLICA_MALFORMED.
+ * Codes of an addition, with what each can be and the parts that it has. Parts that a code does not have and fields
+ * past the count are not looked at. Any other code is REPLICA_MALFORMED.
+ */
+#define REPLICA_CODE_TRUE 0 /* guard: none */
+#define REPLICA_CODE_IN 1   /* guard, operation: from, count 1 to 6 */
+#define REPLICA_CODE_INP 2  /* guard: from, count 1 to 6 */
+#define REPLICA_CODE_RD 3   /* guard, operation: from, count 1 to 6 */
+#define REPLICA_CODE_RDP 4  /* guard: from, count 1 to 6 */
+#define REPLICA_CODE_OUT 5  /* operation: from, count 1 to 6 */
+#define REPLICA_CODE_MOVE 6 /* operation: from, to, count 0 to 6 */
+#define REPLICA_CODE_COPY 7 /* operation: from, to, count 0 to 6 */
+
+/*
+ * An addition: a guard or an operation. from is the space of codes 1 to 5. A space above 255 or another count is
+ * REPLICA_MALFORMED.
  */
 typedef struct {
     uint8_t code;
@@ -166,6 +203,8 @@ typedef struct {
     size_t count;
     replica_field fields[REPLICA_FIELDS];
 } replica_addition;
+
+typedef char replica_addition_has_64_bytes[sizeof(replica_addition) == 64 ? 1 : -1];
 
 /*
  * replica_begin begins a body: host (0 to 15), process, and a first branch with this guard and no operation yet. What

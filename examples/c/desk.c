@@ -11,17 +11,14 @@
 
 #include "replica.h"
 
-enum { TRUE = 0, IN = 1, OUT = 5 };                /* codes */
-enum { GIVEN = 0, BOUND = 1, PLUS = 3, MINUS = 4 }; /* forms */
-enum { WHOLE = 0, NAME = 1 };                      /* kinds */
-enum { HOST = 2, HEAD = 8 };                       /* a record's body stands behind mark, body length, position */
+enum { HOST = 2, HEAD = 8 }; /* a record's body stands behind mark, body length, position */
 
 static const char expected[] =
     "1 2 0 0 0 0:0:00000001\n"
     "3 2 6 0 1\n"
     "2 2 5 0 1 0:0:00000029\n";
 
-static const replica_addition always = {.code = TRUE};
+static const replica_addition always = {.code = REPLICA_CODE_TRUE};
 
 static uint8_t state[REPLICA_STATE_BYTES];
 static uint8_t reply[REPLICA_REPLY_BYTES];
@@ -35,7 +32,7 @@ static size_t fill;
 static replica_addition on_name_7(uint8_t code, replica_field second)
 {
     replica_addition addition = {.code = code, .from = 0, .count = 2};
-    addition.fields[0] = (replica_field){.form = GIVEN, .kind = NAME, .bits = 7};
+    addition.fields[0] = (replica_field){.form = REPLICA_FORM_ACTUAL, .kind = REPLICA_KIND_NAME, .bits = 7};
     addition.fields[1] = second;
     return addition;
 }
@@ -53,25 +50,26 @@ static int operation(replica_addition addition)
 /* in(0, name 7, whole into 0) then out(0, name 7, variable 0 plus 1): 33 bytes. */
 static int write_add_one(void)
 {
-    replica_field into_0 = {.form = BOUND, .kind = WHOLE, .variable = 0};
-    replica_field plus_1 = {.form = PLUS, .kind = WHOLE, .variable = 0, .bits = 1};
-    return begin(5, on_name_7(IN, into_0)) && operation(on_name_7(OUT, plus_1)) && fill == 33;
+    replica_field into_0 = {.form = REPLICA_FORM_FORMAL, .kind = REPLICA_KIND_WHOLE, .variable = 0};
+    replica_field plus_1 = {.form = REPLICA_FORM_SUM, .kind = REPLICA_KIND_WHOLE, .variable = 0, .bits = 1};
+    return begin(5, on_name_7(REPLICA_CODE_IN, into_0)) && operation(on_name_7(REPLICA_CODE_OUT, plus_1)) &&
+           fill == 33;
 }
 
 /* true then out(0, name 7, 41): 21 bytes. */
 static int write_put_41(void)
 {
-    replica_field number_41 = {.form = GIVEN, .kind = WHOLE, .bits = 41};
-    return begin(6, always) && operation(on_name_7(OUT, number_41)) && fill == 21;
+    replica_field number_41 = {.form = REPLICA_FORM_ACTUAL, .kind = REPLICA_KIND_WHOLE, .bits = 41};
+    return begin(6, always) && operation(on_name_7(REPLICA_CODE_OUT, number_41)) && fill == 21;
 }
 
 /* A variable that no earlier operation binds: refused, and the body stands as before. */
 static int refuses_unbound(void)
 {
-    replica_field minus_1 = {.form = MINUS, .kind = WHOLE, .variable = 3, .bits = 1};
+    replica_field minus_1 = {.form = REPLICA_FORM_DIFFERENCE, .kind = REPLICA_KIND_WHOLE, .variable = 3, .bits = 1};
+    replica_addition out = on_name_7(REPLICA_CODE_OUT, minus_1);
     size_t before = fill;
-    return replica_operation(body, REPLICA_BODY_BYTES, &fill, on_name_7(OUT, minus_1)) == REPLICA_MALFORMED &&
-           fill == before;
+    return replica_operation(body, REPLICA_BODY_BYTES, &fill, out) == REPLICA_MALFORMED && fill == before;
 }
 
 /* Puts the head of a record before the filled bytes, and returns the record's length. */
@@ -121,6 +119,8 @@ static int take(size_t length, char *text, size_t room)
 int main(void)
 {
     char text[1000] = "";
+    if (replica_layout() != REPLICA_LAYOUT)
+        return 1;
     if (replica_fresh(state, sizeof state) != 0)
         return 1;
     body[0] = HOST;

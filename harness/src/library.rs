@@ -22,6 +22,7 @@ pub struct Addition {
 }
 
 extern "C" {
+    pub fn replica_layout() -> u64;
     pub fn replica_fresh(state: *mut u8, state_length: usize) -> u64;
     pub fn replica_take(
         state: *mut u8,

@@ -93,6 +93,7 @@ fn moves_and_wakes() -> Vec<Row> {
         row("move of 512", &[two_spaces], always(vec![moves])),
         row("out that wakes a move of 511", &[mover], always(vec![out(&[name(9)])])),
         row("out that wakes 32", &[states::crowd(false)], feeds),
+        row("511 tuples, 32 x 4 guards, youngest wake first", &[states::chain()], always(vec![out(&states::awaited(31))])),
         row("outs that wake 32, 16 values each", &[states::crowd(true)], wide(2, 7, true).branches),
     ]
 }

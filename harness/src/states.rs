@@ -192,6 +192,33 @@ pub fn near_misses(varying: bool) -> Run {
     run
 }
 
+/// A tuple that misses those of `chain`, and the guards of its statements, in the last place alone.
+pub fn link(number: i32) -> [Value; 6] {
+    [name(7), whole(1), name(2), whole(3), whole(4), whole(number)]
+}
+
+/// The link that statement `number` of `chain` waits for.
+pub fn awaited(number: usize) -> [Value; 6] {
+    link(200_000 + number as i32)
+}
+
+/// 511 tuples, and 32 statements of 4 guards that no tuple meets. The last guard of each takes the link that the
+/// next younger one puts out: so they wake from the youngest to the oldest, each after all older ones were tried.
+pub fn chain() -> Run {
+    let mut run = near_empty();
+    run.last = 1000;
+    run.tuples = (0..511).map(|number| tuple(0, &link(1000 + number))).collect();
+    for number in 0..32 {
+        let guard = |values: &[Value]| operation(IN, &[0], given(values));
+        let mut branches: Vec<Branch> =
+            (0..3).map(|at| branch(guard(&link(100_000 + 4 * number as i32 + at)), vec![])).collect();
+        let puts = if number == 0 { link(300_000) } else { awaited(number - 1) };
+        branches.push(branch(guard(&awaited(number)), vec![operation(OUT, &[0], given(&puts))]));
+        wait(&mut run, 1 + number as u32, statement(2, 100 + number as u16, branches));
+    }
+    run
+}
+
 /// 32 statements that wait for one tuple; wide ones bind all 16 variables.
 pub fn crowd(all_variables: bool) -> Run {
     let mut run = near_empty();

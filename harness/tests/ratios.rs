@@ -139,6 +139,20 @@ fn rows_of_32_spaces() {
     assert!(states::many_names().waiting.iter().all(|entry| distinct(entry.statement.spaces()) == 12));
 }
 
+/// The longest call known: each statement is tried until it is woken, the youngest first and the oldest last.
+#[test]
+fn the_row_that_wakes_from_the_youngest() {
+    let rows = rows::taken();
+    let row = rows.iter().find(|row| row.name.ends_with("youngest wake first"));
+    let (mut state, mut reply) = (states::bytes(&states::chain()), vec![0; 3_564]);
+    let count = row.map_or(0, |row| (LIBRARY.take)(&mut state, &row.record, &mut reply));
+    let answered: Vec<(u8, u8)> =
+        reply[..count as usize].chunks(12).map(|reply| (reply[5], reply[9])).collect();
+    let woken = (1..=32).rev().map(|position| (position, 0));
+    assert_eq!(answered[1..], woken.collect::<Vec<_>>());
+    assert_eq!(state[12..15], [2, 0, 0]);
+}
+
 /// What the program says of two files of these bytes.
 fn judged(name: &str, base: &str, head: &str, most: &[&str]) -> Output {
     let folder = std::env::temp_dir().join(format!("ratios-{name}-{}", std::process::id()));

@@ -17,10 +17,3 @@ fn calls_use_less_than_the_header_says() {
 fn calls_run_on_a_stack_of_that_size() {
     run_within(defined("REPLICA_STACK_BYTES"));
 }
-
-#[test]
-fn the_header_has_the_sizes() {
-    assert_eq!(defined("REPLICA_STATE_BYTES"), 24_768);
-    assert_eq!(defined("REPLICA_REPLY_BYTES"), 3_564);
-    assert_eq!(defined("REPLICA_BODY_BYTES"), 250);
-}

@@ -1,10 +1,19 @@
 // The functions for C: a replica of the tuple space in a buffer that the caller lends, and the writer of statements. `include/replica.h` says them in words.
 ghost use mathlib.Core.Path.{_≡_};
+ghost use Rattle.basis.specs.Sizes.{layoutNumber};
 ghost use Rattle.calls.specs.Calls.{lent, answer, freshAnswer, takeCall, freshCall};
 ghost use Rattle.writer.specs.Writer.{writtenIs, beginOn, addOperation, addBranch};
 use statements::Operation;
 
 mod steps;
+
+// Which bytes these are, and which meaning they have, so that two replicas can be compared.
+#[no_mangle]
+pub extern "C" fn replica_layout() -> u64
+    ensures { λ r. ⌜ r ≡ layoutNumber ⌝ }
+{
+    words::LAYOUT
+}
 
 // The fresh-state call: 0, or 1 "for length".
 #[no_mangle]

@@ -1,4 +1,5 @@
-//! Times calls of the library, in units of one word-wise pass over 24,768 bytes in the same run.
+//! Times calls of the library. The unit is the time that reading a state once takes, 8 bytes at a time: one pass over
+//! 24,768 bytes that sums them up, timed in the same run.
 //!
 //!     bench [SAMPLES]
 //!     bench --plain [SAMPLES]    for programs: lines of name, tab, check of the state, tab, whole call, in least ns
@@ -17,6 +18,8 @@ use std::io::stdin;
 use std::time::{Duration, Instant};
 
 const SAMPLES: usize = 4_000;
+/// Samples of a row that takes long end sooner.
+const MOST: Duration = Duration::from_secs(2);
 /// A call that is turned back leaves its buffers as they were, so that many can be timed at once.
 const AT_ONCE: usize = 32;
 /// How long a row is timed where it is asked for, and how often at least.
@@ -33,6 +36,12 @@ struct Times {
 fn summed(mut samples: Vec<f64>) -> Times {
     samples.sort_by(f64::total_cmp);
     Times { least: samples[0], median: samples[samples.len() / 2] }
+}
+
+/// The numbers of so many samples, or of those that begin in time.
+fn numbers(samples: usize) -> impl Iterator<Item = usize> {
+    let start = Instant::now();
+    (0..samples).take_while(move |_| start.elapsed() < MOST)
 }
 
 /// Nanoseconds of one run of `action`, made `times` times, less what reading the clock takes.
@@ -126,8 +135,8 @@ fn print_taken(rows: &[Row], samples: usize, unit: f64, clock: f64) {
     println!("{:46}    least   median    least   median   ns, least  x whole", "");
     for row in rows {
         agree(row);
-        let [check, whole, rest] = Timed::new(LIBRARY, row, clock).taken(0..samples, 1);
-        let [_, second, _] = Timed::new(REFERENCE, row, clock).taken(0..samples / 20, 1);
+        let [check, whole, rest] = Timed::new(LIBRARY, row, clock).taken(numbers(samples), 1);
+        let [_, second, _] = Timed::new(REFERENCE, row, clock).taken(numbers(samples / 20), 1);
         let columns = [check.least, check.median, rest.least, rest.median].map(|time| time / unit);
         let columns: String = columns.iter().map(|units| format!(" {units:8.2}")).collect();
         println!("{:46}{columns} {:11.0} {:8.1}", row.name, whole.least, second.least / whole.least);
@@ -162,7 +171,8 @@ fn print_program() {
 fn print_all(samples: usize) {
     let clock = clock();
     let unit = unit(samples, clock);
-    println!("unit: a pass over 24,768 bytes, least {:.0} ns, median {:.0} ns\n", unit.least, unit.median);
+    println!("A unit is the time of reading a state once: a pass over its 24,768 bytes, 8 at a time, that sums them up.");
+    println!("Here it is {:.0} ns at least, {:.0} ns in the median.\n", unit.least, unit.median);
     print_taken(&rows::taken(), samples, unit.least, clock);
     print_refused(&rows::refused(), samples, unit.least, clock);
     if path().exists() {
@@ -190,7 +200,7 @@ fn print_plain(samples: usize) {
     let clock = clock();
     for (row, is_taken) in all() {
         agree(&row);
-        println!("{}", plain(&row, is_taken, 0..samples, clock));
+        println!("{}", plain(&row, is_taken, numbers(samples), clock));
     }
 }
 
