@@ -1,0 +1,276 @@
+-- The values of a statement that ran done are the statement's own: a variable is among them exactly if a field that binds it stands in the guard or body of the branch that ran. Assumes nothing.
+use mathlib.Core.Path.{_≡_, refl, sym, ap, subst, _∙_}
+use mathlib.Core.Logic.{_↔_, _⊎_, inl, inr}
+use Prim.Native.Nat.{ℕ, zero, suc, _+_, _<_}
+use native.Mathlib.Omega.{arith}
+use mathlib.Core.Bool.{Bool, true, false, not, _||_, or-true, or-false, or-assoc}
+use mathlib.Core.Option.{none, some}
+use mathlib.Core.List.{List, [], _∷_, map, flatMap, List·Memᴰ, List·Memᴰ·head, List·Memᴰ·tail, List·Memᴰ·not-nil, Memᴰ·append-right, Memᴰ·map, Memᴰ·of-map}
+use lib.ListN.{length, length-map, getD, set, replicate}
+use lib.Seq.{getD-set-same, getD-set-other}
+use lib.Dec.{T, T-not, eqb, eqb→eq}
+use Rattle.basis.specs.Choice.{isSome}
+use Rattle.basis.specs.Logic.{and-l, and-r, not-eq}
+use Rattle.basis.specs.Lists.{any, keep, isIn, countFrom}
+use Rattle.basis.specs.ListLaws.{Each, all-at, keep-true, keep-member}
+use Rattle.basis.specs.IndexLaws.{Decides}
+use Rattle.basis.specs.Sizes.{variables}
+use Rattle.model.specs.Value.{Value}
+use Rattle.model.specs.Statement.{Field, actual, formal, reference, sum, difference, anonymous, Operation, always, lookup, deposit, transfer, Branch, operations, Statement}
+use Rattle.model.specs.Legal.{Kinds, noKinds, formOf, bindKind, bindKinds, legalFields, fieldsOf, legalOperation, legalOperations, legalBranch, legalStatement}
+use Rattle.model.specs.LegalWords.{InLookup, InOut, InTransfer, FieldOk, OperationOk, BranchOk, Throughout, throughout-in}
+use Rattle.model.specs.LegalLaws.{branch-iff}
+use Rattle.model.specs.Matching.{Tuple, Bindings, unbound, bindField, bind}
+use Rattle.model.specs.MatchingLaws.{bindField-length}
+use Rattle.model.specs.Execution.{Result, done, failed, perform, performAll, Executed}
+use Rattle.model.specs.OperationLaws.{Taken, always-done, in-removes, rd-reads, out-appends, move-moves, copy-copies}
+use Rattle.model.specs.ExecutionLaws.{Runs, performed-in-order, failure-number}
+use Rattle.model.specs.CheckLaws.{Some, any-iff, equal-iff}
+use Rattle.model.specs.BoundKinds.{fields-cons}
+use Rattle.model.specs.Run.{Reply, boundFrom, outcomeOf, valuesOf, ranReply}
+
+-- ---- what a branch binds, by its text alone
+
+-- "Form 1, kind, variable (0 to 15): binds"; no other form does
+unfoldable pub bindsField : (variable : ℕ) → Field → Bool
+bindsField x (actual v) = false
+bindsField x (formal k y) = eqb x y
+bindsField x (reference y) = false
+bindsField x (sum y v) = false
+bindsField x (difference y v) = false
+bindsField x (anonymous k) = false
+
+unfoldable pub bindsOperation : (variable : ℕ) → Operation → Bool
+bindsOperation x o = any (bindsField x) (fieldsOf o)
+
+-- a field that binds the variable stands in the guard or body
+unfoldable pub binds : Branch → (variable : ℕ) → Bool
+binds b x = any (bindsOperation x) (operations b)
+
+-- the same in words: a field of form 1 and of that variable
+abbrev pub BindsField : (variable : ℕ) → Field → Type 0
+BindsField x f = (k : ℕ) × (f ≡ formal k x)
+
+abbrev pub Binds : Branch → (variable : ℕ) → Type 0
+Binds b x = Some (λ (o : Operation). Some (BindsField x) (fieldsOf o)) (b .guard ∷ b .body)
+
+-- Of a branch and a reply: "A statement's values are all its bound variables in rising number"; a variable is among them exactly if the branch binds it
+pub record Valued (b : Branch) (r : Reply) : Type 0 where
+  pub rising : map (λ (a : ℕ × Value). a .0) (r .values) ≡ keep (binds b) (countFrom variables 0)
+  pub exactly : (x : ℕ) → ((v : Value) × List·Memᴰ (x, v) (r .values)) ↔ Binds b x
+
+-- ---- the test is the words
+
+clash : {A : Type 0} → _≡_ {A = ℕ} 0 1 → A
+clash z = absurd (omega arith)
+
+field-iff : (x : ℕ) → Decides (bindsField x) (BindsField x)
+unfolding bindsField
+field-iff x (actual v) = (λ t. absurd t, λ q. let e = q .1 in clash cc)
+field-iff x (formal k y) = (λ t. (k, ap (formal k) (sym (eqb→eq x y t))), λ q. let e = q .1 in let w : x ≡ y = cc in equal-iff x y .1 w)
+field-iff x (reference y) = (λ t. absurd t, λ q. let e = q .1 in clash cc)
+field-iff x (sum y v) = (λ t. absurd t, λ q. let e = q .1 in clash cc)
+field-iff x (difference y v) = (λ t. absurd t, λ q. let e = q .1 in clash cc)
+field-iff x (anonymous k) = (λ t. absurd t, λ q. let e = q .1 in clash cc)
+
+operation-iff : (x : ℕ) → Decides (bindsOperation x) (λ (o : Operation). Some (BindsField x) (fieldsOf o))
+unfolding bindsOperation
+operation-iff x o = any-iff (bindsField x) (BindsField x) (field-iff x) (fieldsOf o)
+
+-- a branch binds a variable exactly if it does so in words
+pub binds-iff : (b : Branch) → Decides (binds b) (Binds b)
+unfolding binds operations
+binds-iff b x = any-iff (bindsOperation x) (λ (o : Operation). Some (BindsField x) (fieldsOf o)) (operation-iff x) (b .guard ∷ b .body)
+
+-- "variable (0 to 15)": what a legal branch binds
+binds-low : (b : Branch) (x : ℕ) → BranchOk b → Binds b x → x < variables
+binds-low b x ok q =
+    let r = throughout-in (λ earlier o. OperationOk (flatMap fieldsOf earlier) o) (b .guard ∷ b .body) (q .0) (ok .each) (q .1) in
+    of-operation (flatMap fieldsOf (r .0)) (q .0) (r .1) (q .2)
+  where
+    of-fields : (In : Field → Type 0) (before fs : List Field) → Throughout (λ left f. In f × FieldOk before left f) fs → Some (BindsField x) fs → x < variables
+    of-fields In before fs h q =
+        let r = throughout-in (λ left f. In f × FieldOk before left f) fs (q .0) h (q .1) in
+        let ok : FieldOk before (r .0) (formal (q .2 .0) x) = subst (λ (f : Field). FieldOk before (r .0) f) (q .2 .1) (r .1 .1) in
+        ok .1
+
+    of-operation : (before : List Field) (o : Operation) → OperationOk before o → Some (BindsField x) (fieldsOf o) → x < variables
+    of-operation before always h q = unfold fieldsOf in absurd (List·Memᴰ·not-nil (q .1))
+    of-operation before (lookup withdraws blocks s fs) h q = of-fields InLookup before fs (h .3) (unfold fieldsOf in q)
+    of-operation before (deposit s fs) h q = of-fields InOut before fs (h .3) (unfold fieldsOf in q)
+    of-operation before (transfer withdraws from to fs) h q = of-fields InTransfer before fs (h .3) (unfold fieldsOf in q)
+
+-- ---- what operations bind as they run
+
+abbrev isBound : Bindings → ℕ → Bool
+isBound bs x = isSome (getD bs x none)
+
+-- as many variables as before; bound is what was bound, and what is named
+record More (named : ℕ → Bool) (bs bs′ : Bindings) : Type 0 where
+  places : length bs′ ≡ length bs
+  bound : (x : ℕ) → x < length bs → isBound bs′ x ≡ (isBound bs x || named x)
+
+more-nothing : (named : ℕ → Bool) (bs bs′ : Bindings) → bs′ ≡ bs → ((x : ℕ) → named x ≡ false) → More named bs bs′
+more-nothing named bs bs′ e n = record { places = ap length e; bound = λ x h. rw (e, n x) (sym (or-false (isBound bs x))) }
+
+more-then : (f g : ℕ → Bool) (bs bs′ bs″ : Bindings) → More f bs bs′ → More g bs′ bs″ → More (λ x. f x || g x) bs bs″
+more-then f g bs bs′ bs″ m n = record {
+  places = n .places ∙ m .places;
+  bound = λ x h. n .bound x (omega (arith, m .places)) ∙ ap (λ (c : Bool). c || g x) (m .bound x h) ∙ or-assoc (isBound bs x) (f x) (g x);
+}
+
+field-binds : (bs : Bindings) (f : Field) (v : Value) (x : ℕ) → x < length bs → isBound (bindField bs f v) x ≡ (isBound bs x || bindsField x f)
+unfolding bindField bindsField isSome
+field-binds bs (actual u) v x h = sym (or-false (isBound bs x))
+field-binds bs (formal k y) v x h = go (eqb x y) refl
+  where
+    go : (c : Bool) → eqb x y ≡ c → isBound (set bs y (some v)) x ≡ (isBound bs x || c)
+    go true q =
+        let e : x ≡ y = eqb→eq x y (rw q tt) in
+        let s : isBound (set bs x (some v)) x ≡ true = unfold isSome in ap isSome (getD-set-same bs x (some v) none h) in
+        rw (← e) (s ∙ sym (or-true (isBound bs x)))
+    go false q = ap isSome (getD-set-other bs y x (some v) none (not-eq x y (rw q tt))) ∙ sym (or-false (isBound bs x))
+field-binds bs (reference y) v x h = sym (or-false (isBound bs x))
+field-binds bs (sum y u) v x h = sym (or-false (isBound bs x))
+field-binds bs (difference y u) v x h = sym (or-false (isBound bs x))
+field-binds bs (anonymous k) v x h = sym (or-false (isBound bs x))
+
+-- a template binds, at as many values, what its fields bind
+bind-binds : (bs : Bindings) (fs : List Field) (vs : List Value) → length vs ≡ length fs → More (λ x. any (bindsField x) fs) bs (bind bs fs vs)
+unfolding bind any
+bind-binds bs [] vs n = more-nothing (λ x. false) bs bs refl (λ x. refl)
+bind-binds bs (f ∷ fs) [] n = absurd (omega arith)
+bind-binds bs (f ∷ fs) (v ∷ vs) n =
+    more-then (λ x. bindsField x f) (λ x. any (bindsField x) fs) bs (bindField bs f v) (bind (bindField bs f v) fs vs)
+    (record { places = bindField-length bs f v; bound = field-binds bs f v })
+    (bind-binds (bindField bs f v) fs vs (omega arith))
+
+taken-binds : (s : ℕ) (fs : List Field) (bs : Bindings) (ts : List Tuple) (bs′ : Bindings) → Taken s fs bs ts bs′ → More (λ x. any (bindsField x) fs) bs bs′
+taken-binds s fs bs ts bs′ h = rw (h .bound) (bind-binds bs fs (h .tuple .values) (h .oldest .passes .count))
+
+other-form : (allowed : List ℕ) (f : Field) (x : ℕ) → T (not (isIn 1 allowed)) → T (isIn (formOf f) allowed) → bindsField x f ≡ false
+unfolding formOf bindsField
+other-form allowed (actual v) x barred t = refl
+other-form allowed (formal k y) x barred t = absurd (T-not (isIn 1 allowed) barred t)
+other-form allowed (reference y) x barred t = refl
+other-form allowed (sum y v) x barred t = refl
+other-form allowed (difference y v) x barred t = refl
+other-form allowed (anonymous k) x barred t = refl
+
+-- fields of which none may be of form 1 bind nothing
+no-form-1 : (allowed : List ℕ) (earlier now : Kinds) (fs : List Field) (x : ℕ) → T (not (isIn 1 allowed)) → T (legalFields allowed earlier now fs) → any (bindsField x) fs ≡ false
+unfolding any
+no-form-1 allowed earlier now [] x barred t = refl
+no-form-1 allowed earlier now (f ∷ fs) x barred t =
+    let h = fields-cons allowed earlier now f fs t in
+    rw (other-form allowed f x barred (h .0)) (no-form-1 allowed earlier (bindKind now f) fs x barred (h .2))
+
+out-binds : (ks : Kinds) (s : ℕ) (fs : List Field) (x : ℕ) → T (legalOperation ks (deposit s fs)) → any (bindsField x) fs ≡ false
+unfolding legalOperation isIn any
+out-binds ks s fs x t = no-form-1 (0 ∷ 2 ∷ 3 ∷ 4 ∷ []) ks ks fs x tt (search (and-l, and-r, t) depth 6)
+
+transfer-binds : (ks : Kinds) (withdraws : Bool) (from to : ℕ) (fs : List Field) (x : ℕ) → T (legalOperation ks (transfer withdraws from to fs)) → any (bindsField x) fs ≡ false
+unfolding legalOperation isIn any
+transfer-binds ks withdraws from to fs x t = no-form-1 (0 ∷ 2 ∷ 5 ∷ []) ks ks fs x tt (search (and-l, and-r, t) depth 6)
+
+same-bindings : (bs : Bindings) (ts : List Tuple) (bs′ : Bindings) (ts′ : List Tuple) → done bs ts ≡ done bs′ ts′ → bs′ ≡ bs
+same-bindings bs ts bs′ ts′ e = cc
+
+-- an operation that is done binds what its fields bind
+operation-binds : (ks : Kinds) (o : Operation) (bs : Bindings) (ts : List Tuple) (bs′ : Bindings) (ts′ : List Tuple) → T (legalOperation ks o) → perform o bs ts ≡ done bs′ ts′
+    → More (λ x. bindsOperation x o) bs bs′
+unfolding bindsOperation fieldsOf any
+operation-binds ks always bs ts bs′ ts′ t e = more-nothing (λ x. false) bs bs′ (same-bindings bs ts bs′ ts′ (sym (always-done bs ts) ∙ e)) (λ x. refl)
+operation-binds ks (lookup true blocks s fs) bs ts bs′ ts′ t e = taken-binds s fs bs ts bs′ (in-removes blocks s fs bs ts bs′ ts′ e .0)
+operation-binds ks (lookup false blocks s fs) bs ts bs′ ts′ t e = taken-binds s fs bs ts bs′ (rd-reads blocks s fs bs ts bs′ ts′ e .0)
+operation-binds ks (deposit s fs) bs ts bs′ ts′ t e = more-nothing (λ x. any (bindsField x) fs) bs bs′ (out-appends s fs bs ts bs′ ts′ e .3) (λ x. out-binds ks s fs x t)
+operation-binds ks (transfer true from to fs) bs ts bs′ ts′ t e =
+    more-nothing (λ x. any (bindsField x) fs) bs bs′ (same-bindings bs _ bs′ ts′ (sym (move-moves from to fs bs ts .3) ∙ e)) (λ x. transfer-binds ks true from to fs x t)
+operation-binds ks (transfer false from to fs) bs ts bs′ ts′ t e =
+    more-nothing (λ x. any (bindsField x) fs) bs bs′ (copy-copies from to fs bs ts bs′ ts′ e .4) (λ x. transfer-binds ks false from to fs x t)
+
+-- and so do operations in their order
+operations-bind : (ks : Kinds) (os : List Operation) (bs : Bindings) (ts : List Tuple) (bs′ : Bindings) (ts′ : List Tuple) → T (legalOperations ks os) → performAll os bs ts ≡ done bs′ ts′
+    → More (λ x. any (bindsOperation x) os) bs bs′
+unfolding legalOperations any
+operations-bind ks [] bs ts bs′ ts′ t e = more-nothing (λ x. false) bs bs′ (same-bindings bs ts bs′ ts′ (unfold performAll in e)) (λ x. refl)
+operations-bind ks (o ∷ os) bs ts bs′ ts′ t e =
+    let r = performed-in-order o os bs ts bs′ ts′ e in
+    let a = legalOperation ks o in
+    let b = legalOperations (bindKinds ks (fieldsOf o)) os in
+    more-then (λ x. bindsOperation x o) (λ x. any (bindsOperation x) os) bs (r .0) bs′ (operation-binds ks o bs ts (r .0) (r .1) (and-l a b t) (r .2))
+    (operations-bind (bindKinds ks (fieldsOf o)) os (r .0) (r .1) bs′ ts′ (and-r a b t) (r .3))
+
+-- ---- the values of its reply
+
+variables-of : (named : ℕ → Bool) (k : ℕ) (bs : Bindings) → ((i : ℕ) → i < length bs → isBound bs i ≡ named (k + i)) → map (λ (a : ℕ × Value). a .0) (boundFrom k bs) ≡ keep named (countFrom (length bs) k)
+unfolding boundFrom keep countFrom isSome
+variables-of named k [] h = refl
+variables-of named k (none ∷ bs) h =
+    let z : k + 0 ≡ k = omega arith in
+    let e : named k ≡ false = rw z at (sym (h 0 (omega arith))) in
+    rw e (variables-of named (suc k) bs (λ i l. h (suc i) (omega arith) ∙ ap named (omega arith)))
+variables-of named k (some v ∷ bs) h =
+    let z : k + 0 ≡ k = omega arith in
+    let e : named k ≡ true = rw z at (sym (h 0 (omega arith))) in
+    rw e (ap (λ (l : List ℕ). k ∷ l) (variables-of named (suc k) bs (λ i l. h (suc i) (omega arith) ∙ ap named (omega arith))))
+
+counted : (n m i : ℕ) → i < n → List·Memᴰ (m + i) (countFrom n m)
+unfolding countFrom
+counted zero m i h = absurd (omega arith)
+counted (suc n) m zero h = let e : m + 0 ≡ m = omega arith in List·Memᴰ·head e
+counted (suc n) m (suc i) h = let e : m + suc i ≡ suc m + i = omega arith in rw e (List·Memᴰ·tail (counted n (suc m) i (omega arith)))
+
+rising-exactly : (b : Branch) (vs : List (ℕ × Value)) → BranchOk b → map (λ (a : ℕ × Value). a .0) vs ≡ keep (binds b) (countFrom variables 0) → (x : ℕ) → ((v : Value) × List·Memᴰ (x, v) vs) ↔ Binds b x
+rising-exactly b vs ok e x = (
+  λ q. binds-iff b x .0 (keep-true (binds b) (countFrom variables 0) x (subst (λ (l : List ℕ). List·Memᴰ x l) e (Memᴰ·map (λ (a : ℕ × Value). a .0) (q .1)))),
+  λ q.
+      let z : 0 + x ≡ x = omega arith in
+      let m = keep-member (binds b) (countFrom variables 0) x (rw z at (counted variables 0 x (binds-low b x ok q))) (binds-iff b x .1 q) in
+      let r = Memᴰ·of-map (λ (a : ℕ × Value). a .0) vs (subst (λ (l : List ℕ). List·Memᴰ x l) (sym e) m) in
+      (r .0 .1, subst (λ (y : ℕ). List·Memᴰ (y, r .0 .1) vs) (r .2) (r .1)),
+)
+
+nothing-bound : (n x : ℕ) → isBound (replicate n none) x ≡ false
+unfolding isSome
+nothing-bound zero x = refl
+nothing-bound (suc n) zero = refl
+nothing-bound (suc n) (suc x) = nothing-bound n x
+
+branch-valued : (b : Branch) (ts : List Tuple) (bs : Bindings) (ts′ : List Tuple) (r : Reply) → T (legalBranch b) → performAll (operations b) unbound ts ≡ done bs ts′ → r .values ≡ boundFrom 0 bs → Valued b r
+unfolding legalBranch binds
+branch-valued b ts bs ts′ r legal e v =
+    let named : ℕ → Bool = λ x. any (bindsOperation x) (operations b) in
+    let m = operations-bind noKinds (operations b) unbound ts bs ts′ (search (and-r, legal) depth 4) e in
+    let n : length bs ≡ variables = m .places in
+    let l = variables-of named 0 bs (λ x h. m .bound x (omega arith) ∙ ap (λ (c : Bool). c || named x) (nothing-bound variables x) ∙ ap named (omega arith)) in
+    let all : map (λ (a : ℕ × Value). a .0) (r .values) ≡ keep (binds b) (countFrom variables 0) = rw v (rw n at l) in
+    record { rising = all; exactly = rising-exactly b (r .values) (branch-iff b .0 legal) all }
+
+legal-branches : (st : Statement) → T (legalStatement st) → Each (λ (b : Branch). T (legalBranch b)) (st .branches)
+unfolding legalStatement
+legal-branches st t = all-at legalBranch (st .branches) (search (and-r, t) depth 4)
+
+not-done : (n : ℕ) → n ≡ 0 → (n ≡ 12) ⊎ ((n ≡ 16) ⊎ (n ≡ 17)) → ⊥
+not-done n z (inl e) = omega arith
+not-done n z (inr (inl e)) = omega arith
+not-done n z (inr (inr e)) = omega arith
+
+-- the reply to a legal statement that ran done, whatever the tuples were: its values are those that the branch binds
+pub ran-valued : (ts : List Tuple) (st : Statement) (e : Executed) (p : ℕ) → T (legalStatement st) → (h : Runs ts st e) → (ranReply p st e) .outcome ≡ 0 → Valued (h .branch) (ranReply p st e)
+unfolding ranReply operations
+ran-valued ts st e p legal h z = go (e .result) (h .result) z refl
+  where
+    b : Branch
+    b = h .branch
+
+    member : List·Memᴰ b (st .branches)
+    member = subst (λ (l : List Branch). List·Memᴰ b l) (sym (h .least .split)) (Memᴰ·append-right (h .least .front) (List·Memᴰ·head refl))
+
+    go : (r : Result) → r ≡ performAll (b .guard ∷ b .body) unbound ts → outcomeOf r ≡ 0 → e .result ≡ r → Valued b (ranReply p st e)
+    go (done bs ts′) q z w = branch-valued b ts bs ts′ (ranReply p st e) (legal-branches st legal b member) (unfold operations in sym q) (unfold ranReply valuesOf in rw w refl)
+    go (failed n) q z w = absurd (not-done n (unfold outcomeOf in z) (failure-number (b .guard ∷ b .body) unbound ts n (sym q)))
+
+-- and they are as many
+pub valued-count : (b : Branch) (r : Reply) → Valued b r → length (r .values) ≡ length (keep (binds b) (countFrom variables 0))
+valued-count b r h = sym (length-map (r .values) (λ (a : ℕ × Value). a .0)) ∙ ap length (h .rising)
