@@ -40,10 +40,11 @@ bindsField x (sum y v) = false
 bindsField x (difference y v) = false
 bindsField x (anonymous k) = false
 
+-- some field of the operation does
 unfoldable pub bindsOperation : (variable : ℕ) → Operation → Bool
 bindsOperation x o = any (bindsField x) (fieldsOf o)
 
--- a field that binds the variable stands in the guard or body
+-- such a field stands in the guard or body
 unfoldable pub binds : Branch → (variable : ℕ) → Bool
 binds b x = any (bindsOperation x) (operations b)
 
@@ -51,6 +52,7 @@ binds b x = any (bindsOperation x) (operations b)
 abbrev pub BindsField : (variable : ℕ) → Field → Type 0
 BindsField x f = (k : ℕ) × (f ≡ formal k x)
 
+-- such a field stands in the guard or body
 abbrev pub Binds : Branch → (variable : ℕ) → Type 0
 Binds b x = Some (λ (o : Operation). Some (BindsField x) (fieldsOf o)) (b .guard ∷ b .body)
 
@@ -215,18 +217,18 @@ variables-of named k (some v ∷ bs) h =
     let e : named k ≡ true = rw z at (sym (h 0 (omega arith))) in
     rw e (ap (λ (l : List ℕ). k ∷ l) (variables-of named (suc k) bs (λ i l. h (suc i) (omega arith) ∙ ap named (omega arith))))
 
-counted : (n m i : ℕ) → i < n → List·Memᴰ (m + i) (countFrom n m)
+countFrom-member : (n m i : ℕ) → i < n → List·Memᴰ (m + i) (countFrom n m)
 unfolding countFrom
-counted zero m i h = absurd (omega arith)
-counted (suc n) m zero h = let e : m + 0 ≡ m = omega arith in List·Memᴰ·head e
-counted (suc n) m (suc i) h = let e : m + suc i ≡ suc m + i = omega arith in rw e (List·Memᴰ·tail (counted n (suc m) i (omega arith)))
+countFrom-member zero m i h = absurd (omega arith)
+countFrom-member (suc n) m zero h = let e : m + 0 ≡ m = omega arith in List·Memᴰ·head e
+countFrom-member (suc n) m (suc i) h = let e : m + suc i ≡ suc m + i = omega arith in rw e (List·Memᴰ·tail (countFrom-member n (suc m) i (omega arith)))
 
 rising-exactly : (b : Branch) (vs : List (ℕ × Value)) → BranchOk b → map (λ (a : ℕ × Value). a .0) vs ≡ keep (binds b) (countFrom variables 0) → (x : ℕ) → ((v : Value) × List·Memᴰ (x, v) vs) ↔ Binds b x
 rising-exactly b vs ok e x = (
   λ q. binds-iff b x .0 (keep-true (binds b) (countFrom variables 0) x (subst (λ (l : List ℕ). List·Memᴰ x l) e (Memᴰ·map (λ (a : ℕ × Value). a .0) (q .1)))),
   λ q.
       let z : 0 + x ≡ x = omega arith in
-      let m = keep-member (binds b) (countFrom variables 0) x (rw z at (counted variables 0 x (binds-low b x ok q))) (binds-iff b x .1 q) in
+      let m = keep-member (binds b) (countFrom variables 0) x (rw z at (countFrom-member variables 0 x (binds-low b x ok q))) (binds-iff b x .1 q) in
       let r = Memᴰ·of-map (λ (a : ℕ × Value). a .0) vs (subst (λ (l : List ℕ). List·Memᴰ x l) (sym e) m) in
       (r .0 .1, subst (λ (y : ℕ). List·Memᴰ (y, r .0 .1) vs) (r .2) (r .1)),
 )
