@@ -100,6 +100,16 @@ incident =
     ∷ call two again3
     ∷ []
 
+-- the two replicas at first; after a list of events; after a cut
+abbrev pub start : World
+start = begin freshCall takeCall buffers
+
+abbrev pub world : (starts : Side → Bytes) → List Event → World
+world starts es = end freshCall takeCall (begin freshCall takeCall starts) es
+
+abbrev pub afterCut : World → Side → Moment → (left : Bytes) → World
+afterCut w c m left = after freshCall takeCall w (cut c m left)
+
 -- ---- it befalls
 
 pub buffers-fresh : (c : Side) → length (buffers c) ≡ stateSize
@@ -110,7 +120,7 @@ buffers-fresh c = zeros-length stateSize
 took-next : (s : Run) (l : Lent) → Sound s → l .state ≡ encode s → refusalAt (s .last) (l .input) (l .reply) ≡ none → T (took (takeCall l))
 took-next s l h e pass = rw (take-sound s l h e, pass) (count-took ((stepBytes s (l .input)) .replies) _ _)
 
-position-taken : (p n : ℕ) (l : Lent) → T (took (takeCall l)) → numberOf (l .input) ≡ some n → positionAfter p l ≡ n
+position-taken : (p n : ℕ) (l : Lent) → T (took (takeCall l)) → numberOf (l .input) ≡ some n → positionAfter freshCall takeCall p l ≡ n
 unfolding positionAfter
 position-taken p n l t e = rw (is-true (took (takeCall l)) t, e)
 
@@ -131,13 +141,13 @@ numbered3 : numberOf record3 ≡ some 3
 unfolding computes
 numbered3 = refl
 
-position1 : positionAfter 0 one1 ≡ 1
+position1 : positionAfter freshCall takeCall 0 one1 ≡ 1
 unfolding one1 lend
 position1 =
     position-taken 0 1 one1 (took-next fresh one1 fresh-sound (fresh-made (buffers one) (buffers-fresh one)) (unfold fresh in (passes one) .0)) numbered1
 
 -- every event of the incident can befall where it stands
-pub incident-befalls : Befalls (begin buffers) incident
+pub incident-befalls : Befalls freshCall takeCall start incident
 unfolding begin after replace holding stop called end incident one1 one2 one3 two1 two2 again2 again3 copied lend
 incident-befalls =
     ((refl, tt), ((refl, tt), ((refl, tt), ((refl, tt), ((refl, tt), (tt, ((tt, List·Memᴰ·tail (List·Memᴰ·tail (List·Memᴰ·head (ap (λ (n : ℕ). record { position = n; bytes = (takeCall one1) .state }) (sym position1))))), ((refl, tt), ((refl, tt), tt)))))))))
@@ -166,17 +176,17 @@ incident-no-clash =
 
 -- ---- what the claim says of it
 
-claim : Claim (begin buffers) incident
+claim : Claim freshCall takeCall start incident
 claim = theorem buffers buffers-fresh incident incident-befalls incident-no-clash
 
 -- a call of the list at a position whose checks pass took its record
-taken-at : (k : Called) → List·Memᴰ k (calls (begin buffers) incident) → (n : ℕ) → k .position ≡ n → refusalAt n (k .lent .input) (k .lent .reply) ≡ none → Taken (inputs incident) k
+taken-at : (k : Called) → List·Memᴰ k (calls freshCall takeCall start incident) → (n : ℕ) → k .position ≡ n → refusalAt n (k .lent .input) (k .lent .reply) ≡ none → Taken freshCall takeCall (inputs incident) k
 taken-at k i n e pass =
-    subst (Answered (inputs incident) k) (ap (λ (m : ℕ). refusalAt m (k .lent .input) (k .lent .reply)) e ∙ pass) (claim .answers k i)
+    subst (Answered freshCall takeCall (inputs incident) k) (ap (λ (m : ℕ). refusalAt m (k .lent .input) (k .lent .reply)) e ∙ pass) (claim .answers k i)
 
 -- the uncut calls for records 2 and 3 that each replica ends with
 abbrev before2 : Side → ℕ
-before2 one = positionAfter 0 one1
+before2 one = positionAfter freshCall takeCall 0 one1
 before2 two = 1
 
 abbrev lent2 : Side → Lent
@@ -191,9 +201,9 @@ abbrev call2 : Side → Called
 call2 c = record { side = c; position = before2 c; lent = lent2 c }
 
 abbrev call3 : Side → Called
-call3 c = record { side = c; position = positionAfter (before2 c) (lent2 c); lent = lent3 c }
+call3 c = record { side = c; position = positionAfter freshCall takeCall (before2 c) (lent2 c); lent = lent3 c }
 
-listed : (c : Side) → List·Memᴰ (call2 c) (calls (begin buffers) incident) × List·Memᴰ (call3 c) (calls (begin buffers) incident)
+listed : (c : Side) → List·Memᴰ (call2 c) (calls freshCall takeCall start incident) × List·Memᴰ (call3 c) (calls freshCall takeCall start incident)
 unfolding calls callOf positionOf after begin replace holding stop called incident copied
 listed one = (
   List·Memᴰ·tail (List·Memᴰ·tail (List·Memᴰ·head refl)),
@@ -214,17 +224,17 @@ at1 : (c : Side) → before2 c ≡ 1
 at1 one = position1
 at1 two = refl
 
-taken2 : (c : Side) → Taken (inputs incident) (call2 c)
+taken2 : (c : Side) → Taken freshCall takeCall (inputs incident) (call2 c)
 taken2 c = taken-at (call2 c) (listed c .0) 1 (at1 c) (rw (lends c .0, lends c .1 .0) (passes c .1 .0))
 
-at2 : (c : Side) → positionAfter (before2 c) (lent2 c) ≡ 2
+at2 : (c : Side) → positionAfter freshCall takeCall (before2 c) (lent2 c) ≡ 2
 at2 c = position-taken (before2 c) 2 (lent2 c) (taken2 c .taken) (ap numberOf (lends c .0) ∙ numbered2)
 
-taken3 : (c : Side) → Taken (inputs incident) (call3 c)
+taken3 : (c : Side) → Taken freshCall takeCall (inputs incident) (call3 c)
 taken3 c = taken-at (call3 c) (listed c .1) 2 (at2 c) (rw (lends c .1 .1 .0, lends c .1 .1 .1) (passes c .1 .1))
 
-at3 : (c : Side) → positionAfter (positionAfter (before2 c) (lent2 c)) (lent3 c) ≡ 3
-at3 c = position-taken (positionAfter (before2 c) (lent2 c)) 3 (lent3 c) (taken3 c .taken) (ap numberOf (lends c .1 .1 .0) ∙ numbered3)
+at3 : (c : Side) → positionAfter freshCall takeCall (positionAfter freshCall takeCall (before2 c) (lent2 c)) (lent3 c) ≡ 3
+at3 c = position-taken (positionAfter freshCall takeCall (before2 c) (lent2 c)) 3 (lent3 c) (taken3 c .taken) (ap numberOf (lends c .1 .1 .0) ∙ numbered3)
 
 -- the one-by-one run of records 1 and 2
 run2 : Run
@@ -238,26 +248,26 @@ run-replies3 : repliesBytes ((stepBytes run2 record3) .replies) ≡ replies3
 unfolding computes run2
 run-replies3 = refl
 
-replied3 : (c : Side) → replyBytesOf (call3 c) ≡ replies3
+replied3 : (c : Side) → replyBytesOf freshCall takeCall (call3 c) ≡ replies3
 replied3 c =
     let t = taken3 c in
     let r : t .run ≡ run2 = Option·some-injective (t .run) run2 (sym (t .reached) ∙ ap (runAt (inputs incident)) (at2 c) ∙ run-at2) in
     t .replies ∙ rw (r, lends c .1 .1 .0) run-replies3
 
 -- On either replica a call of the incident took record 3, and its reply bytes are the two replies, own and woken.
-pub incident-replies : (c : Side) → (k : Called) × List·Memᴰ k (calls (begin buffers) incident) × (k .side ≡ c) × (k .lent .input ≡ record3) × T (took (answer k)) × (replyBytesOf k ≡ replies3)
+pub incident-replies : (c : Side) → (k : Called) × List·Memᴰ k (calls freshCall takeCall start incident) × (k .side ≡ c) × (k .lent .input ≡ record3) × T (took (answer freshCall takeCall k)) × (replyBytesOf freshCall takeCall k ≡ replies3)
 incident-replies c = (call3 c, listed c .1, refl, lends c .1 .1 .0, taken3 c .taken, replied3 c)
 
-ended : (c : Side) → (end (begin buffers) incident c) .condition ≡ running (record { position = 3; bytes = (takeCall (lent3 c)) .state })
+ended : (c : Side) → (world buffers incident c) .condition ≡ running (record { position = 3; bytes = (takeCall (lent3 c)) .state })
 unfolding end after begin replace holding stop called incident copied
 ended one = ap (λ (n : ℕ). running (record { position = n; bytes = (takeCall one3) .state })) (at3 one)
 ended two = ap (λ (n : ℕ). running (record { position = n; bytes = (takeCall again3) .state })) (at3 two)
 
 -- Both replicas end running at position 3, with the same state bytes.
-pub incident-ends : (h : Held) × (h .position ≡ 3) × ((c : Side) → (end (begin buffers) incident c) .condition ≡ running h)
+pub incident-ends : (h : Held) × (h .position ≡ 3) × ((c : Side) → (world buffers incident c) .condition ≡ running h)
 incident-ends = (record { position = 3; bytes = (takeCall one3) .state }, refl, both)
   where
-    both : (c : Side) → (end (begin buffers) incident c) .condition ≡ running (record { position = 3; bytes = (takeCall one3) .state })
+    both : (c : Side) → (world buffers incident c) .condition ≡ running (record { position = 3; bytes = (takeCall one3) .state })
     both one = ended one
     both two = ended two ∙ ap (λ (b : Bytes). running (record { position = 3; bytes = b })) (claim .equalStates two one _ _ (claim .latest two _ (ended two)) (claim .latest one _ (ended one)) refl)
 
@@ -267,13 +277,13 @@ incident-ends = (record { position = 3; bytes = (takeCall one3) .state }, refl, 
 pub call-befalls : (w : World) (c : Side) (h : Held) → (w c) .condition ≡ running h → (input reply : Bytes) → T (areBytes input) → Can w (call c (record { state = h .bytes; input = input; reply = reply }))
 call-befalls w c h e input reply t = subst (λ (d : Condition). CanCall d (record { state = h .bytes; input = input; reply = reply })) (sym e) (refl, t)
 
-stopped-now : (w : World) (c : Side) (m : Moment) (left : Bytes) → IsStopped ((after w (cut c m left) c) .condition)
+stopped-now : (w : World) (c : Side) (m : Moment) (left : Bytes) → IsStopped ((afterCut w c m left c) .condition)
 unfolding after replace stop
 stopped-now w one m left = tt
 stopped-now w two m left = tt
 
 -- after any cut the replica can restart by the fresh-state call, on a buffer of 24,768 bytes
-pub fresh-restart-befalls : (w : World) (c : Side) (m : Moment) (left buffer : Bytes) → length buffer ≡ stateSize → Can (after w (cut c m left)) (restartFresh c buffer)
+pub fresh-restart-befalls : (w : World) (c : Side) (m : Moment) (left buffer : Bytes) → length buffer ≡ stateSize → Can (afterCut w c m left) (restartFresh c buffer)
 fresh-restart-befalls w c m left buffer e = (stopped-now w c m left, e)
 
 -- a replica has held a state, and the one that it holds is of those
@@ -293,9 +303,9 @@ keeps-stop : (left : Bytes) (k : Replica) → Keeps k → Keeps (stop left k)
 unfolding stop
 keeps-stop left k kk = record { held = kk .held; latest = λ d e. absurd (subst IsStopped e tt) }
 
-keeps-called : (d : Condition) (l : Lent) (k : Replica) → Keeps k → Keeps (called d l k)
+keeps-called : (d : Condition) (l : Lent) (k : Replica) → Keeps k → Keeps (called freshCall takeCall d l k)
 unfolding called
-keeps-called (running h) l k kk = keeps-holding (record { position = positionAfter (h .position) l; bytes = (takeCall l) .state }) k
+keeps-called (running h) l k kk = keeps-holding (record { position = positionAfter freshCall takeCall (h .position) l; bytes = (takeCall l) .state }) k
 keeps-called (stopped b) l k kk = kk
 
 keeps-replace : (w : World) (c : Side) (k : Replica) → ((d : Side) → Keeps (w d)) → Keeps k → (d : Side) → Keeps (replace w c k d)
@@ -305,37 +315,37 @@ keeps-replace w one k kw kk two = kw two
 keeps-replace w two k kw kk one = kw one
 keeps-replace w two k kw kk two = kk
 
-keeps-after : (w : World) (e : Event) → ((d : Side) → Keeps (w d)) → (d : Side) → Keeps (after w e d)
+keeps-after : (w : World) (e : Event) → ((d : Side) → Keeps (w d)) → (d : Side) → Keeps (after freshCall takeCall w e d)
 unfolding after
 keeps-after w (call c l) kw = keeps-replace w c _ kw (keeps-called ((w c) .condition) l (w c) (kw c))
 keeps-after w (cut c m left) kw = keeps-replace w c _ kw (keeps-stop left (w c) (kw c))
 keeps-after w (restartFresh c buffer) kw = keeps-replace w c _ kw (keeps-holding (record { position = 0; bytes = (freshCall buffer) .state }) (w c))
 keeps-after w (restartCopy c h) kw = keeps-replace w c _ kw (keeps-holding h (w c))
 
-keeps-end : (w : World) (es : List Event) → ((d : Side) → Keeps (w d)) → (d : Side) → Keeps (end w es d)
+keeps-end : (w : World) (es : List Event) → ((d : Side) → Keeps (w d)) → (d : Side) → Keeps (end freshCall takeCall w es d)
 unfolding end
 keeps-end w [] kw = kw
-keeps-end w (e ∷ es) kw = keeps-end (after w e) es (keeps-after w e kw)
+keeps-end w (e ∷ es) kw = keeps-end (after freshCall takeCall w e) es (keeps-after w e kw)
 
-keeps-begin : (starts : Side → Bytes) (d : Side) → Keeps (begin starts d)
+keeps-begin : (starts : Side → Bytes) (d : Side) → Keeps (begin freshCall takeCall starts d)
 unfolding begin
 keeps-begin starts d = keeps-holding (record { position = 0; bytes = (freshCall (starts d)) .state }) _
 
 -- a cut leaves the other replica as it is
-other-kept : (w : World) (c : Side) (m : Moment) (left : Bytes) → after w (cut c m left) (other c) ≡ w (other c)
+other-kept : (w : World) (c : Side) (m : Moment) (left : Bytes) → afterCut w c m left (other c) ≡ w (other c)
 unfolding after replace
 other-kept w one m left = refl
 other-kept w two m left = refl
 
-copy-of : (w : World) (c : Side) (m : Moment) (left : Bytes) (h : Held) → List·Memᴰ h ((w (other c)) .history) → Can (after w (cut c m left)) (restartCopy c h)
+copy-of : (w : World) (c : Side) (m : Moment) (left : Bytes) (h : Held) → List·Memᴰ h ((w (other c)) .history) → Can (afterCut w c m left) (restartCopy c h)
 copy-of w c m left h i = (stopped-now w c m left, subst (λ (k : Replica). List·Memᴰ h (k .history)) (sym (other-kept w c m left)) i)
 
 -- after any events and any cut there is a state of the other that the replica can restart from by a copy
-pub copy-restart-befalls : (starts : Side → Bytes) (es : List Event) (c : Side) (m : Moment) (left : Bytes) → (h : Held) × Can (after (end (begin starts) es) (cut c m left)) (restartCopy c h)
+pub copy-restart-befalls : (starts : Side → Bytes) (es : List Event) (c : Side) (m : Moment) (left : Bytes) → (h : Held) × Can (afterCut (world starts es) c m left) (restartCopy c h)
 copy-restart-befalls starts es c m left =
-    let k = (keeps-end (begin starts) es (keeps-begin starts) (other c)) .held in
-    (k .0, copy-of (end (begin starts) es) c m left (k .0) (k .1))
+    let k = (keeps-end (begin freshCall takeCall starts) es (keeps-begin starts) (other c)) .held in
+    (k .0, copy-of (world starts es) c m left (k .0) (k .1))
 
 -- where the other runs, its latest state is one of them
-pub latest-copy-befalls : (starts : Side → Bytes) (es : List Event) (c : Side) (m : Moment) (left : Bytes) (h : Held) → (end (begin starts) es (other c)) .condition ≡ running h → Can (after (end (begin starts) es) (cut c m left)) (restartCopy c h)
-latest-copy-befalls starts es c m left h e = copy-of (end (begin starts) es) c m left h ((keeps-end (begin starts) es (keeps-begin starts) (other c)) .latest h e)
+pub latest-copy-befalls : (starts : Side → Bytes) (es : List Event) (c : Side) (m : Moment) (left : Bytes) (h : Held) → (world starts es (other c)) .condition ≡ running h → Can (afterCut (world starts es) c m left) (restartCopy c h)
+latest-copy-befalls starts es c m left h e = copy-of (world starts es) c m left h ((keeps-end (begin freshCall takeCall starts) es (keeps-begin starts) (other c)) .latest h e)

@@ -131,7 +131,7 @@ good-fresh xs buffer e = record { run = fresh; sound = fresh-sound; last = refl;
 -- ---- a call on a state of the run
 
 abbrev Answers : List Bytes → Called → Type 0
-Answers xs k = Answered xs k (refusalAt (k .position) (k .lent .input) (k .lent .reply))
+Answers xs k = Answered freshCall takeCall xs k (refusalAt (k .position) (k .lent .input) (k .lent .reply))
 
 small-untaken : (a : Answer) → 2 ≤ a .returned → a .returned ≤ 5 → took a ≡ false
 unfolding took
@@ -148,14 +148,14 @@ module _ (xs : List Bytes) (nc : NoClash xs) (c : Side) (h : Held) (g : Good xs 
   this = record { side = c; position = h .position; lent = l }
 
   abbrev Next : Type 0
-  Next = Good xs (record { position = positionAfter (h .position) l; bytes = (takeCall l) .state }) × Answers xs this
+  Next = Good xs (record { position = positionAfter freshCall takeCall (h .position) l; bytes = (takeCall l) .state }) × Answers xs this
 
   is-taken : takeCall l ≡ takenBy (g .run) l → refusalAt (h .position) (l .input) (l .reply) ≡ none → Next
   unfolding positionAfter laidOver
   is-taken e pass =
       let next : numberOf (l .input) ≡ some (suc (h .position)) = passes-next (h .position) (l .input) (l .reply) pass in
       let tk : T (took (takeCall l)) = rw e (count-took ((stepBytes (g .run) (l .input)) .replies) _ _) in
-      let at : positionAfter (h .position) l ≡ suc (h .position) = rw (is-true (took (takeCall l)) tk, next) in
+      let at : positionAfter freshCall takeCall (h .position) l ≡ suc (h .position) = rw (is-true (took (takeCall l)) tk, next) in
       let good : Good xs (record { position = suc (h .position); bytes = (takeCall l) .state }) = record {
         run = (stepBytes (g .run) (l .input)) .run;
         sound = stepBytes-sound (g .run) (l .input) (g .sound) ab (rw (g .last) next);
@@ -163,7 +163,7 @@ module _ (xs : List Bytes) (nc : NoClash xs) (c : Side) (h : Held) (g : Good xs 
         reached = runs xs nc (h .position) (g .run) (l .input) (g .reached) m next;
         bytes = ap (λ (a : Answer). a .state) e;
       } in
-      let replies : replyBytesOf this ≡ repliesBytes ((stepBytes (g .run) (l .input)) .replies) =
+      let replies : replyBytesOf freshCall takeCall this ≡ repliesBytes ((stepBytes (g .run) (l .input)) .replies) =
       ap (λ (a : Answer). take (a .returned) (a .reply)) e ∙ take-at (repliesBytes ((stepBytes (g .run) (l .input)) .replies)) _ _ refl in (
         subst (λ (n : ℕ). Good xs (record { position = n; bytes = (takeCall l) .state })) (sym at) good,
         rw pass (record { taken = tk; next = next; run = g .run; reached = g .reached; count = ap (λ (a : Answer). a .returned) e; replies = replies; state = ap (λ (a : Answer). a .state) e }),
@@ -175,7 +175,7 @@ module _ (xs : List Bytes) (nc : NoClash xs) (c : Side) (h : Held) (g : Good xs 
       let r : (takeCall l) .returned ≡ n = ap (λ (a : Answer). a .returned) e in
       let s = refused-small (h .position) (l .input) (l .reply) n fail in
       let no : took (takeCall l) ≡ false = small-untaken (takeCall l) (omega arith) (omega arith) in
-      let at : positionAfter (h .position) l ≡ h .position = rw no in
+      let at : positionAfter freshCall takeCall (h .position) l ≡ h .position = rw no in
       let good : Good xs (record { position = h .position; bytes = (takeCall l) .state }) = record
       { run = g .run; sound = g .sound; last = g .last; reached = g .reached; bytes = ap (λ (a : Answer). a .state) e ∙ same ∙ g .bytes } in (
         subst (λ (n : ℕ). Good xs (record { position = n; bytes = (takeCall l) .state })) (sym at) good,
@@ -197,12 +197,12 @@ module _ (xs : List Bytes) (nc : NoClash xs) (c : Side) (h : Held) (g : Good xs 
 
 module _ (xs : List Bytes) (nc : NoClash xs) where
   call-good : (c : Side) (now : Condition) (l : Lent) (k : Replica) → GoodNow xs now → GoodReplica xs k → CanCall now l → List·Memᴰ (l .input) xs
-      → GoodReplica xs (called now l k) × Answers xs (record { side = c; position = positionOf now; lent = l })
+      → GoodReplica xs (called freshCall takeCall now l k) × Answers xs (record { side = c; position = positionOf now; lent = l })
   unfolding called positionOf
   call-good c (running h) l k gn gk can m = let a = called-good xs nc c h gn l (can .0) (can .1) m in (good-holding xs _ k (a .0) (gk .past), a .1)
   call-good c (stopped b) l k gn gk can m = absurd can
 
-  event-good : (w : World) (e : Event) → Each (λ (x : Bytes). List·Memᴰ x xs) (inputOf e) → GoodWorld xs w → Can w e → GoodWorld xs (after w e) × Each (Answers xs) (callOf w e)
+  event-good : (w : World) (e : Event) → Each (λ (x : Bytes). List·Memᴰ x xs) (inputOf e) → GoodWorld xs w → Can w e → GoodWorld xs (after freshCall takeCall w e) × Each (Answers xs) (callOf w e)
   unfolding after callOf inputOf
   event-good w (call c l) sub gw can =
       let a = call-good c ((w c) .condition) l (w c) ((gw c) .now) (gw c) can (sub (l .input) (List·Memᴰ·head refl)) in
@@ -211,17 +211,17 @@ module _ (xs : List Bytes) (nc : NoClash xs) where
   event-good w (restartFresh c buffer) sub gw can = (good-replace xs w c _ gw (good-holding xs _ (w c) (good-fresh xs buffer (can .1)) ((gw c) .past)), each-nil (Answers xs))
   event-good w (restartCopy c h) sub gw can = (good-replace xs w c _ gw (good-holding xs h (w c) ((gw (other c)) .past h (can .1)) ((gw c) .past)), each-nil (Answers xs))
 
-  events-good : (w : World) (es : List Event) → Each (λ (x : Bytes). List·Memᴰ x xs) (inputs es) → GoodWorld xs w → Befalls w es → GoodWorld xs (end w es) × Each (Answers xs) (calls w es)
+  events-good : (w : World) (es : List Event) → Each (λ (x : Bytes). List·Memᴰ x xs) (inputs es) → GoodWorld xs w → Befalls freshCall takeCall w es → GoodWorld xs (end freshCall takeCall w es) × Each (Answers xs) (calls freshCall takeCall w es)
   unfolding end calls inputs
   events-good w [] sub gw t = (gw, each-nil (Answers xs))
   events-good w (e ∷ es) sub gw t =
       let a = event-good w e (λ x i. sub x (Memᴰ·append-left (inputs es) i)) gw (t .0) in
-      let b = events-good (after w e) es (λ x i. sub x (Memᴰ·append-right (inputOf e) i)) (a .0) (t .1) in
-      (b .0, each-append (Answers xs) (callOf w e) (calls (after w e) es) (a .1) (b .1))
+      let b = events-good (after freshCall takeCall w e) es (λ x i. sub x (Memᴰ·append-right (inputOf e) i)) (a .0) (t .1) in
+      (b .0, each-append (Answers xs) (callOf w e) (calls freshCall takeCall (after freshCall takeCall w e) es) (a .1) (b .1))
 
 -- ---- the claim
 
-good-begin : (xs : List Bytes) (buffers : Side → Bytes) → ((c : Side) → length (buffers c) ≡ stateSize) → GoodWorld xs (begin buffers)
+good-begin : (xs : List Bytes) (buffers : Side → Bytes) → ((c : Side) → length (buffers c) ≡ stateSize) → GoodWorld xs (begin freshCall takeCall buffers)
 unfolding begin
 good-begin xs buffers e c = good-holding xs _ _ (good-fresh xs (buffers c) (e c)) (each-nil (Good xs))
 
@@ -229,20 +229,20 @@ same-run : (xs : List Bytes) (m n : ℕ) (s t : Run) → m ≡ n → runAt xs m 
 same-run xs m n s t e p q = cc
 
 -- a call that took its record was not turned back
-was-taken : (xs : List Bytes) (k : Called) (o : Option ℕ) → T (took (answer k)) → Answered xs k o → Taken xs k
+was-taken : (xs : List Bytes) (k : Called) (o : Option ℕ) → T (took (answer freshCall takeCall k)) → Answered freshCall takeCall xs k o → Taken freshCall takeCall xs k
 was-taken xs k none t a = a
-was-taken xs k (some n) t a = absurd (T-not (took (answer k)) (false-is (took (answer k)) (a .untaken)) t)
+was-taken xs k (some n) t a = absurd (T-not (took (answer freshCall takeCall k)) (false-is (took (answer freshCall takeCall k)) (a .untaken)) t)
 
-same-replies : (xs : List Bytes) (j k : Called) → j .lent .input ≡ k .lent .input → Taken xs j → Taken xs k → replyBytesOf j ≡ replyBytesOf k
+same-replies : (xs : List Bytes) (j k : Called) → j .lent .input ≡ k .lent .input → Taken freshCall takeCall xs j → Taken freshCall takeCall xs k → replyBytesOf freshCall takeCall j ≡ replyBytesOf freshCall takeCall k
 same-replies xs j k e a b =
     let n : some (suc (j .position)) ≡ some (suc (k .position)) = sym (a .next) ∙ ap numberOf e ∙ b .next in
     let r : a .run ≡ b .run = same-run xs (j .position) (k .position) (a .run) (b .run) (cc) (a .reached) (b .reached) in
     a .replies ∙ (rw (r, e)) ∙ sym (b .replies)
 
-not-one : (xs : List Bytes) (k : Called) → Answers xs k → (answer k) .returned ≡ 1 → ⊥
+not-one : (xs : List Bytes) (k : Called) → Answers xs k → (answer freshCall takeCall k) .returned ≡ 1 → ⊥
 not-one xs k a e = go (refusalAt (k .position) (k .lent .input) (k .lent .reply)) refl a
   where
-    go : (o : Option ℕ) → refusalAt (k .position) (k .lent .input) (k .lent .reply) ≡ o → Answered xs k o → ⊥
+    go : (o : Option ℕ) → refusalAt (k .position) (k .lent .input) (k .lent .reply) ≡ o → Answered freshCall takeCall xs k o → ⊥
     go none q a = unfold took in subst (λ (n : ℕ). T (eqb n 0 || ltb 5 n)) e (a .taken)
     go (some n) q a = omega (arith, refused-small (k .position) (k .lent .input) (k .lent .reply) n q, a .returned)
 
@@ -254,16 +254,16 @@ same-bytes xs h k p g g′ = g .bytes ∙ ap encode (same-run xs (h .position) (
 
 pub theorem : Demand3
 theorem buffers empty es t nc =
-    let w : World = begin buffers in
+    let w : World = begin freshCall takeCall buffers in
     let xs : List Bytes = inputs es in
     let good = events-good xs nc w es (λ x i. i) (good-begin xs buffers empty) t in
-    let taken : (k : Called) → List·Memᴰ k (calls w es) → T (took (answer k)) → Taken xs k =
+    let taken : (k : Called) → List·Memᴰ k (calls freshCall takeCall w es) → T (took (answer freshCall takeCall k)) → Taken freshCall takeCall xs k =
     λ k i t. was-taken xs k (refusalAt (k .position) (k .lent .input) (k .lent .reply)) t (good .1 k i) in
     record {
       states = λ c h e. of-run xs h (subst (GoodNow xs) e ((good .0 c) .now));
       pastStates = λ c h m. of-run xs h ((good .0 c) .past h m);
       equalStates = λ c d h k m m′ p. same-bytes xs h k p ((good .0 c) .past h m) ((good .0 d) .past k m′);
-      latest = λ c h e. subst (λ (n : Condition). Latest n ((end w es c) .history)) e ((good .0 c) .latest);
+      latest = λ c h e. subst (λ (n : Condition). Latest n ((end freshCall takeCall w es c) .history)) e ((good .0 c) .latest);
       answers = good .1;
       never1 = λ k i. not-one xs k (good .1 k i);
       equalReplies = λ j k i i′ tj tk e. same-replies xs j k e (taken j i tj) (taken k i′ tk);

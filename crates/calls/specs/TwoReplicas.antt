@@ -1,4 +1,4 @@
--- "Two cabinets" (a cabinet is a replica here): what may befall two replicas, and the claim over every list of it. No proof stands here. Assumes nothing.
+-- "Two cabinets" (a cabinet is a replica here): what may befall two replicas, and the claim over every list of it, for any two calls; demand 3 is the claim at the calls. No proof stands here. Assumes nothing.
 use mathlib.Core.Path.{_≡_}
 use Prim.Native.Nat.{ℕ, zero, suc}
 use mathlib.Core.Bool.{Bool, true, false, cond, _||_}
@@ -14,7 +14,7 @@ use Rattle.model.specs.Matching.{Tuple, unbound, matches}
 use Rattle.model.specs.Run.{Waiting, Run, fresh}
 use Rattle.layout.specs.Replies.{repliesBytes}
 use Rattle.layout.specs.States.{encode}
-use Rattle.calls.specs.Calls.{Bytes, Lent, Answer, numberOf, refusalAt, stepBytes, freshCall, takeCall}
+use Rattle.calls.specs.Calls.{Bytes, FreshAnswer, Lent, Answer, numberOf, refusalAt, stepBytes, freshCall, takeCall}
 
 -- ---- what may befall
 
@@ -77,20 +77,6 @@ stop left k = record { condition = stopped left; history = k .history }
 unfoldable pub took : Answer → Bool
 took a = eqb (a .returned) 0 || ltb 5 (a .returned)
 
--- "then the number of each record it takes"
-unfoldable pub positionAfter : ℕ → Lent → ℕ
-positionAfter p l = cond (took (takeCall l)) (maybe (numberOf (l .input)) p (λ n. n)) p
-
-unfoldable pub called : Condition → Lent → Replica → Replica
-called (running h) l k = holding (record { position = positionAfter (h .position) l; bytes = (takeCall l) .state }) k
-called (stopped b) l k = k
-
-unfoldable pub after : World → Event → World
-after w (call c l) = replace w c (called ((w c) .condition) l (w c))
-after w (cut c m left) = replace w c (stop left (w c))
-after w (restartFresh c buffer) = replace w c (holding (record { position = 0; bytes = (freshCall buffer) .state }) (w c))
-after w (restartCopy c h) = replace w c (holding h (w c))
-
 -- ---- which events can befall
 
 -- "Each call gets the state that its cabinet's last call or restart left"; the record is bytes
@@ -109,19 +95,6 @@ Can w (cut c m left) = Unit {0}
 Can w (restartFresh c buffer) = IsStopped ((w c) .condition) × (length buffer ≡ stateSize)
 Can w (restartCopy c h) = IsStopped ((w c) .condition) × List·Memᴰ h ((w (other c)) .history)
 
--- the events of a list can befall one after the other
-abbrev pub Befalls : World → List Event → Type 0
-Befalls w [] = Unit {0}
-Befalls w (e ∷ es) = Can w e × Befalls (after w e) es
-
-unfoldable pub end : World → List Event → World
-end w [] = w
-end w (e ∷ es) = end (after w e) es
-
--- "Empty, at first or at a restart, is the fresh state as the fresh-state call leaves it"
-unfoldable pub begin : (buffers : Side → Bytes) → World
-begin buffers c = holding (record { position = 0; bytes = (freshCall (buffers c)) .state }) (record { condition = stopped (buffers c); history = [] })
-
 -- ---- the calls of a list
 
 -- `position`: the replica's when the call came
@@ -129,13 +102,6 @@ pub record Called : Type 0 where
   pub side : Side
   pub position : ℕ
   pub lent : Lent
-
-abbrev pub answer : Called → Answer
-answer k = takeCall (k .lent)
-
--- "Reply bytes are the buffer's first ones, as many as the call returned"
-abbrev pub replyBytesOf : Called → Bytes
-replyBytesOf k = take ((answer k) .returned) ((answer k) .reply)
 
 unfoldable pub positionOf : Condition → ℕ
 positionOf (running h) = h .position
@@ -146,10 +112,6 @@ callOf w (call c l) = record { side = c; position = positionOf ((w c) .condition
 callOf w (cut c m left) = []
 callOf w (restartFresh c buffer) = []
 callOf w (restartCopy c h) = []
-
-unfoldable pub calls : World → List Event → List Called
-calls w [] = []
-calls w (e ∷ es) = callOf w e ++ calls (after w e) es
 
 -- ---- the one-by-one run, "fed the records 1, 2, .. alone, each once and in order"
 
@@ -180,7 +142,7 @@ runAt xs (suc p) = maybe (runAt xs p) none (λ s. maybe (recordNumbered (suc p) 
 abbrev pub NoClash : List Bytes → Type 0
 NoClash xs = (n : ℕ) (x y : Bytes) → List·Memᴰ x xs → List·Memᴰ y xs → numberOf x ≡ some n → numberOf y ≡ some n → x ≡ y
 
--- ---- the claim
+-- ---- a state of the run
 
 -- "a tuple meets a guard when it matches"
 abbrev pub Meets : Tuple → Operation → Type 0
@@ -201,46 +163,91 @@ pub record OfRun (xs : List Bytes) (h : Held) : Type 0 where
   pub bytes : h .bytes ≡ encode run
   pub quiet : Quiet run
 
--- a call that took its record: it was the next, the state bytes and the reply bytes, own and woken, are the run's
-pub record Taken (xs : List Bytes) (k : Called) : Type 0 where
-  pub taken : T (took (answer k))
-  pub next : numberOf (k .lent .input) ≡ some (suc (k .position))
-  pub run : Run
-  pub reached : runAt xs (k .position) ≡ some run
-  pub count : (answer k) .returned ≡ length (repliesBytes ((stepBytes run (k .lent .input)) .replies))
-  pub replies : replyBytesOf k ≡ repliesBytes ((stepBytes run (k .lent .input)) .replies)
-  pub state : (answer k) .state ≡ encode ((stepBytes run (k .lent .input)) .run)
+-- ---- the claim, for any two calls: the fresh-state call and the call for a record
 
--- a call that was turned back: it returned the number of the check that failed, and changed no byte
-pub record TurnedBack (n : ℕ) (k : Called) : Type 0 where
-  pub returned : (answer k) .returned ≡ n
-  pub untaken : took (answer k) ≡ false
-  pub state : (answer k) .state ≡ k .lent .state
-  pub reply : (answer k) .reply ≡ k .lent .reply
+module _ (freshState : Bytes → FreshAnswer) (takeRecord : Lent → Answer) where
+  -- "then the number of each record it takes"
+  unfoldable pub positionAfter : ℕ → Lent → ℕ
+  positionAfter p l = cond (took (takeRecord l)) (maybe (numberOf (l .input)) p (λ n. n)) p
 
--- "An uncut call takes its record exactly when checks 2 to 5 pass against that position, else returns the number of the first that fails"
-abbrev pub Answered : List Bytes → Called → Option ℕ → Type 0
-Answered xs k none = Taken xs k
-Answered xs k (some n) = TurnedBack n k
+  unfoldable pub called : Condition → Lent → Replica → Replica
+  called (running h) l k = holding (record { position = positionAfter (h .position) l; bytes = (takeRecord l) .state }) k
+  called (stopped b) l k = k
 
-pub record Claim (w : World) (es : List Event) : Type 0 where
-  -- each running replica's state bytes are the encoding of the run at its position, in which no waiting statement has a guard that is met
-  pub states : (c : Side) (h : Held) → (end w es c) .condition ≡ running h → OfRun (inputs es) h
-  -- and so are those of every state that it ever held between calls
-  pub pastStates : (c : Side) (h : Held) → List·Memᴰ h ((end w es c) .history) → OfRun (inputs es) h
-  -- equal positions mean equal state bytes, on one replica or on both, at whatever times
-  pub equalStates : (c d : Side) (h k : Held) → List·Memᴰ h ((end w es c) .history) → List·Memᴰ k ((end w es d) .history) → h .position ≡ k .position → h .bytes ≡ k .bytes
-  -- a running replica's state is one of them
-  pub latest : (c : Side) (h : Held) → (end w es c) .condition ≡ running h → List·Memᴰ h ((end w es c) .history)
-  -- each call is answered as the checks against its replica's position say
-  pub answers : (k : Called) → List·Memᴰ k (calls w es) → Answered (inputs es) k (refusalAt (k .position) (k .lent .input) (k .lent .reply))
-  -- "1 never comes back in the list"
-  pub never1 : (k : Called) → List·Memᴰ k (calls w es) → (answer k) .returned ≡ 1 → ⊥
-  -- two calls that took the same record, on one replica or on both, gave equal reply bytes
-  pub equalReplies : (j k : Called) → List·Memᴰ j (calls w es) → List·Memᴰ k (calls w es) → T (took (answer j)) → T (took (answer k)) → j .lent .input ≡ k .lent .input → replyBytesOf j ≡ replyBytesOf k
+  unfoldable pub after : World → Event → World
+  after w (call c l) = replace w c (called ((w c) .condition) l (w c))
+  after w (cut c m left) = replace w c (stop left (w c))
+  after w (restartFresh c buffer) = replace w c (holding (record { position = 0; bytes = (freshState buffer) .state }) (w c))
+  after w (restartCopy c h) = replace w c (holding h (w c))
 
--- DEMAND 3, over every list of events on two replicas that start empty
+  -- the events of a list can befall one after the other
+  abbrev pub Befalls : World → List Event → Type 0
+  Befalls w [] = Unit {0}
+  Befalls w (e ∷ es) = Can w e × Befalls (after w e) es
+
+  unfoldable pub end : World → List Event → World
+  end w [] = w
+  end w (e ∷ es) = end (after w e) es
+
+  -- "Empty, at first or at a restart, is the fresh state as the fresh-state call leaves it"
+  unfoldable pub begin : (buffers : Side → Bytes) → World
+  begin buffers c = holding (record { position = 0; bytes = (freshState (buffers c)) .state }) (record { condition = stopped (buffers c); history = [] })
+
+  abbrev pub answer : Called → Answer
+  answer k = takeRecord (k .lent)
+
+  -- "Reply bytes are the buffer's first ones, as many as the call returned"
+  abbrev pub replyBytesOf : Called → Bytes
+  replyBytesOf k = take ((answer k) .returned) ((answer k) .reply)
+
+  unfoldable pub calls : World → List Event → List Called
+  calls w [] = []
+  calls w (e ∷ es) = callOf w e ++ calls (after w e) es
+
+  -- a call that took its record: it was the next, the state bytes and the reply bytes, own and woken, are the run's
+  pub record Taken (xs : List Bytes) (k : Called) : Type 0 where
+    pub taken : T (took (answer k))
+    pub next : numberOf (k .lent .input) ≡ some (suc (k .position))
+    pub run : Run
+    pub reached : runAt xs (k .position) ≡ some run
+    pub count : (answer k) .returned ≡ length (repliesBytes ((stepBytes run (k .lent .input)) .replies))
+    pub replies : replyBytesOf k ≡ repliesBytes ((stepBytes run (k .lent .input)) .replies)
+    pub state : (answer k) .state ≡ encode ((stepBytes run (k .lent .input)) .run)
+
+  -- a call that was turned back: it returned the number of the check that failed, and changed no byte
+  pub record TurnedBack (n : ℕ) (k : Called) : Type 0 where
+    pub returned : (answer k) .returned ≡ n
+    pub untaken : took (answer k) ≡ false
+    pub state : (answer k) .state ≡ k .lent .state
+    pub reply : (answer k) .reply ≡ k .lent .reply
+
+  -- "An uncut call takes its record exactly when checks 2 to 5 pass against that position, else returns the number of the first that fails"
+  abbrev pub Answered : List Bytes → Called → Option ℕ → Type 0
+  Answered xs k none = Taken xs k
+  Answered xs k (some n) = TurnedBack n k
+
+  pub record Claim (w : World) (es : List Event) : Type 0 where
+    -- each running replica's state bytes are the encoding of the run at its position, in which no waiting statement has a guard that is met
+    pub states : (c : Side) (h : Held) → (end w es c) .condition ≡ running h → OfRun (inputs es) h
+    -- and so are those of every state that it ever held between calls
+    pub pastStates : (c : Side) (h : Held) → List·Memᴰ h ((end w es c) .history) → OfRun (inputs es) h
+    -- equal positions mean equal state bytes, on one replica or on both, at whatever times
+    pub equalStates : (c d : Side) (h k : Held) → List·Memᴰ h ((end w es c) .history) → List·Memᴰ k ((end w es d) .history) → h .position ≡ k .position → h .bytes ≡ k .bytes
+    -- a running replica's state is one of them
+    pub latest : (c : Side) (h : Held) → (end w es c) .condition ≡ running h → List·Memᴰ h ((end w es c) .history)
+    -- each call is answered as the checks against its replica's position say
+    pub answers : (k : Called) → List·Memᴰ k (calls w es) → Answered (inputs es) k (refusalAt (k .position) (k .lent .input) (k .lent .reply))
+    -- "1 never comes back in the list"
+    pub never1 : (k : Called) → List·Memᴰ k (calls w es) → (answer k) .returned ≡ 1 → ⊥
+    -- two calls that took the same record, on one replica or on both, gave equal reply bytes
+    pub equalReplies : (j k : Called) → List·Memᴰ j (calls w es) → List·Memᴰ k (calls w es) → T (took (answer j)) → T (took (answer k)) → j .lent .input ≡ k .lent .input → replyBytesOf j ≡ replyBytesOf k
+
+  -- the claim, over every list of events on two replicas that start empty
+  abbrev pub Demand3Of : Type 0
+  Demand3Of =
+      (buffers : Side → Bytes) → ((c : Side) → length (buffers c) ≡ stateSize)
+      → (es : List Event) → Befalls (begin buffers) es → NoClash (inputs es) → Claim (begin buffers) es
+
+-- DEMAND 3: the claim, at the calls
 abbrev pub Demand3 : Type 0
-Demand3 =
-    (buffers : Side → Bytes) → ((c : Side) → length (buffers c) ≡ stateSize)
-    → (es : List Event) → Befalls (begin buffers) es → NoClash (inputs es) → Claim (begin buffers) es
+Demand3 = Demand3Of freshCall takeCall

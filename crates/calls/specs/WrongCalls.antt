@@ -1,19 +1,18 @@
--- What the claim over two replicas and the contract of the call shut out: the programs of "Four lines on contracts", each as a definition of the call. The claim: the first three, with a list on which a part of it is false. The contract: all six, at a named input. Assumes nothing.
+-- What demand 3 and the contract of the call shut out: the six programs of "Four lines on contracts", each as a definition of the call. Demand 3 is false of each, at two records. The contract: each differs from the call at a named input. Assumes nothing.
 use mathlib.Core.Path.{_≡_, refl, sym, ap, subst, _∙_}
-use Prim.Native.Nat.{ℕ, suc, _≤_}
+use Prim.Native.Nat.{ℕ, _≤_}
 use native.Mathlib.Omega.{arith}
 use mathlib.Core.Bool.{Bool, true, cond, not}
 use mathlib.Core.Option.{Option, none, some, Option·some-injective}
-use mathlib.Core.List.{List, [], _∷_, _++_, map, List·Memᴰ, List·Memᴰ·head, List·Memᴰ·tail}
+use mathlib.Core.List.{List, [], _∷_, _++_, map, List·Memᴰ·head, List·Memᴰ·tail}
 use lib.ListN.{length, take, drop, getD}
 use lib.Seq.{take-at}
 use lib.Dec.{T, eqb}
-use lib.Pow.{areBytes}
 use Rattle.basis.specs.Choice.{maybe, firstNumber}
-use Rattle.basis.specs.Logic.{is-true, and-l, and-r}
-use Rattle.basis.specs.Lists.{all, any, keep, zeros}
+use Rattle.basis.specs.Logic.{is-true}
+use Rattle.basis.specs.Lists.{any, keep, zeros}
 use Rattle.basis.specs.ListLaws.{each-nil, each-cons}
-use Rattle.basis.specs.Sizes.{replyHeaderSize, replySize, stateSize}
+use Rattle.basis.specs.Sizes.{replyHeaderSize, replySize}
 use Rattle.model.specs.Statement.{Statement}
 use Rattle.model.specs.Run.{Waiting, Run, fresh, withLast, withWaiting, Reply, Turn}
 use Rattle.model.specs.Step.{RV, CR, AG, Record, recordOf, Request, recover, crash, monitor, openSpace, closeSpace, guarded, requestOf, checks, askingHost, askingProcess, refused, malformed, effect, settled, step}
@@ -24,10 +23,9 @@ use Rattle.layout.specs.States.{encode, decode}
 use Rattle.layout.specs.IsState.{isState}
 use Rattle.layout.specs.StateLaws.{decode-encode, encode-state}
 use Rattle.calls.specs.Calls.{Bytes, Lent, Answer, numberOf, refusalAt, refusal, stepBytes, laidOver, turnedBack, taken, freshCall, takeCall, answer}
-use Rattle.calls.specs.TwoReplicas.{Side, one, Held, Event, call, Condition, running, World, replace, holding, took, positionAfter, called, after, CanCall, Befalls, begin, Called, positionOf, callOf, calls, inputOf, inputs, runAt, NoClash, Taken, Answered, Claim}
-use Rattle.calls.specs.CallLaws.{stepBytes-sound, fresh-made, count-took}
+use Rattle.calls.specs.TwoReplicas.{one, Event, call, World, replace, holding, took, positionAfter, called, after, Befalls, begin, Called, replyBytesOf, positionOf, callOf, calls, inputOf, inputs, runAt, NoClash, Taken, Answered, Claim, Demand3Of}
+use Rattle.calls.specs.CallLaws.{stepBytes-sound}
 use Rattle.calls.specs.NotEmpty.{record1, numbered1, buffers, buffers-fresh, Tabled, tabled, no-clash}
-use Rattle.calls.specs.Theorem.{theorem}
 use Rattle.calls.specs.Computes.{computes}
 
 -- ---- another call
@@ -44,89 +42,6 @@ callBy work l =
 pub callBy-step : (l : Lent) → callBy step l ≡ takeCall l
 unfolding callBy takeCall taken stepBytes
 callBy-step l = refl
-
--- ---- the part of the claim, for another call: records given to one replica that starts empty
-
-pub empty : Held
-empty = record { position = 0; bytes = encode fresh }
-
-pub lend : Held → Bytes → Lent
-lend h x = record { state = h .bytes; input = x; reply = zeros replySize }
-
--- what the replica holds after a call, and its calls: each gets the state that the last one left
-pub heldAfter : (Lent → Answer) → Held → Lent → Held
-heldAfter does h l = record { position = cond (took (does l)) (maybe (numberOf (l .input)) (h .position) (λ n. n)) (h .position); bytes = (does l) .state }
-
-pub callsFrom : (Lent → Answer) → Held → List Bytes → List Called
-callsFrom does h [] = []
-callsFrom does h (x ∷ xs) = record { side = one; position = h .position; lent = lend h x } ∷ callsFrom does (heldAfter does h (lend h x)) xs
-
--- `Taken` of the claim, for another call: it took its record, which was the next, and the state bytes and the reply bytes are the run's
-pub record TakenBy (does : Lent → Answer) (xs : List Bytes) (k : Called) : Type 0 where
-  pub taken : T (took (does (k .lent)))
-  pub next : numberOf (k .lent .input) ≡ some (suc (k .position))
-  pub run : Run
-  pub reached : runAt xs (k .position) ≡ some run
-  pub replies : take ((does (k .lent)) .returned) ((does (k .lent)) .reply) ≡ repliesBytes ((stepBytes run (k .lent .input)) .replies)
-  pub state : (does (k .lent)) .state ≡ encode ((stepBytes run (k .lent .input)) .run)
-
--- each call that the checks 2 to 5 let pass is so answered
-abbrev pub Answers : (Lent → Answer) → List Bytes → Type 0
-Answers does xs = (k : Called) → List·Memᴰ k (callsFrom does empty xs) → refusalAt (k .position) (k .lent .input) (k .lent .reply) ≡ none → TakenBy does xs k
-
--- ---- it is a part of the claim
-
--- the events: the calls alone
-pub events : Held → List Bytes → List Event
-events h xs = map (λ (k : Called). call one (k .lent)) (callsFrom takeCall h xs)
-
-runs-on : (w : World) (h : Held) (l : Lent) → (w one) .condition ≡ running h → (after w (call one l) one) .condition ≡ running (heldAfter takeCall h l)
-unfolding after replace called holding heldAfter positionAfter
-runs-on w h l e = rw e
-
-events-befall : (w : World) (h : Held) (xs : List Bytes) → (w one) .condition ≡ running h → T (all areBytes xs) → Befalls w (events h xs)
-unfolding events callsFrom lend all
-events-befall w h [] e t = tt
-events-befall w h (x ∷ xs) e t = (
-  subst (λ (d : Condition). CanCall d (lend h x)) (sym e) (refl, and-l (areBytes x) (all areBytes xs) t),
-  events-befall (after w (call one (lend h x))) (heldAfter takeCall h (lend h x)) xs (runs-on w h (lend h x) e) (and-r (areBytes x) (all areBytes xs) t),
-)
-
-events-calls : (w : World) (h : Held) (xs : List Bytes) → (w one) .condition ≡ running h → calls w (events h xs) ≡ callsFrom takeCall h xs
-unfolding events callsFrom calls callOf positionOf
-events-calls w h [] e = refl
-events-calls w h (x ∷ xs) e = rw (e, events-calls (after w (call one (lend h x))) (heldAfter takeCall h (lend h x)) xs (runs-on w h (lend h x) e))
-
-events-inputs : (h : Held) (xs : List Bytes) → inputs (events h xs) ≡ xs
-unfolding events callsFrom inputs inputOf lend
-events-inputs h [] = refl
-events-inputs h (x ∷ xs) = ap (λ (l : List Bytes). x ∷ l) (events-inputs (heldAfter takeCall h (lend h x)) xs)
-
-begins-empty : (starts : Side → Bytes) → ((c : Side) → length (starts c) ≡ stateSize) → (begin starts one) .condition ≡ running empty
-unfolding begin holding empty
-begins-empty starts e = ap (λ (b : Bytes). running (record { position = 0; bytes = b })) (fresh-made (starts one) (e one))
-
--- the list befalls
-pub list-befalls : (starts : Side → Bytes) → ((c : Side) → length (starts c) ≡ stateSize) → (xs : List Bytes) → T (all areBytes xs) → Befalls (begin starts) (events empty xs)
-list-befalls starts e xs t = events-befall (begin starts) empty xs (begins-empty starts e) t
-
--- and the claim of it has the part
-pub part-of-claim : (starts : Side → Bytes) → ((c : Side) → length (starts c) ≡ stateSize) → (xs : List Bytes) → Claim (begin starts) (events empty xs) → Answers takeCall xs
-part-of-claim starts e xs claim k i pass =
-    let listed = subst (List·Memᴰ k) (sym (events-calls (begin starts) empty xs (begins-empty starts e))) i in
-    let t : Taken (inputs (events empty xs)) k = subst (Answered (inputs (events empty xs)) k) pass (claim .answers k listed) in
-    record {
-      taken = t .taken;
-      next = t .next;
-      run = t .run;
-      reached = subst (λ (ys : List Bytes). runAt ys (k .position) ≡ some (t .run)) (events-inputs empty xs) (t .reached);
-      replies = t .replies;
-      state = t .state;
-    }
-
--- so it holds of the call
-pub call-answers : (xs : List Bytes) → T (all areBytes xs) → NoClash xs → Answers takeCall xs
-call-answers xs t nc = part-of-claim buffers buffers-fresh xs (theorem buffers buffers-fresh (events empty xs) (list-befalls buffers buffers-fresh xs t) (subst NoClash (sym (events-inputs empty xs)) nc))
 
 -- ---- the wrong programs
 
@@ -157,7 +72,19 @@ leavesWaiting = onStatements (λ s st. record { run = withWaiting s (s .waiting 
 pub answersUntried : (outcome branch : ℕ) → Run → Record → Turn
 answersUntried n b = onStatements (λ s st. record { run = s; replies = record { position = s .last; host = st .host; process = st .process; outcome = n; branch = b; values = [] } ∷ [] })
 
--- ---- a list on which each is found out
+-- "sends every record back", by whatever number
+pub sendsBack : ℕ → Lent → Answer
+sendsBack n l = turnedBack l n
+
+-- "giving a fixed reply", whatever it leaves of the state
+pub fixedReply : Bytes → (left : Lent → Bytes) → Lent → Answer
+fixedReply bytes left l = answer (length bytes) (left l) (laidOver bytes (l .reply))
+
+-- "one inert"
+pub inert : Lent → Answer
+inert l = answer 0 (l .state) (l .reply)
+
+-- ---- two records at which each is found out
 
 -- RV 2 at 1; at 2, process 6: true, then out(0, name 7, 41)
 abbrev pub record2 : Bytes
@@ -165,10 +92,6 @@ record2 = 65 ∷ 71 ∷ 0 ∷ 21 ∷ 0 ∷ 0 ∷ 0 ∷ 2 ∷ 2 ∷ 0 ∷ 6 ∷ 1
 
 abbrev pub stream : List Bytes
 stream = record1 ∷ record2 ∷ []
-
-pub stream-bytes : T (all areBytes stream)
-unfolding all
-stream-bytes = tt
 
 item1 : Record
 item1 = record { mark = RV; position = 1; body = drop 8 record1 }
@@ -188,7 +111,7 @@ numbered2 : numberOf record2 ≡ some 2
 unfolding computes
 numbered2 = refl
 
--- the claim's hypothesis holds of the list
+-- the claim's hypothesis holds of them
 pub stream-no-clash : NoClash stream
 stream-no-clash =
     let table : List Bytes = [] ∷ stream in
@@ -210,10 +133,17 @@ last1 : run1 .last ≡ 1
 unfolding computes run1 item1
 last1 = refl
 
--- what the run replies to record 2: done, in branch 1
-reply2 : repliesBytes ((stepBytes run1 record2) .replies) ≡ 82 ∷ 80 ∷ 0 ∷ 0 ∷ 0 ∷ 2 ∷ 2 ∷ 0 ∷ 6 ∷ 0 ∷ 1 ∷ 0 ∷ []
+-- what the run replies: one value; then done, in branch 1, with none
+count1 : length (repliesBytes ((stepBytes fresh record1) .replies)) ≡ 18
+unfolding computes
+count1 = refl
+
+abbrev pub reply2 : Bytes
+reply2 = 82 ∷ 80 ∷ 0 ∷ 0 ∷ 0 ∷ 2 ∷ 2 ∷ 0 ∷ 6 ∷ 0 ∷ 1 ∷ 0 ∷ []
+
+replies2 : repliesBytes ((stepBytes run1 record2) .replies) ≡ reply2
 unfolding computes run1 item1
-reply2 = refl
+replies2 = refl
 
 run-at1 : runAt stream 1 ≡ some run1
 unfolding computes run1 item1
@@ -240,75 +170,134 @@ work-replies work s l r h e q pass =
     let bytes = repliesBytes ((work s r) .replies) in
     ap (λ (a : Answer). take (a .returned) (a .reply)) (does-work work s l r h e q pass) ∙ take-at bytes (drop (length bytes) (l .reply)) (length bytes) refl
 
--- a program that works record 1 right and answers record 2 otherwise than the run
-module _ (work : Run → Record → Turn) (right : work fresh item1 ≡ step fresh item1) (wrong : repliesBytes ((work run1 item2) .replies) ≡ repliesBytes ((stepBytes run1 record2) .replies) → ⊥) where
+-- ---- what demand 3 says of a call at the two records
+
+abbrev pub lend : (state input : Bytes) → Lent
+lend state input = record { state = state; input = input; reply = zeros replySize }
+
+module _ (does : Lent → Answer) where
+  -- both records, to replica one; the second call gets the state that the first left
   abbrev lent1 : Lent
-  lent1 = lend empty record1
+  lent1 = lend ((freshCall (buffers one)) .state) record1
 
-  abbrev held1 : Held
-  held1 = heldAfter (callBy work) empty lent1
+  abbrev lent2 : Lent
+  lent2 = lend ((does lent1) .state) record2
 
-  answer1 : callBy work lent1 ≡ record { returned = length (repliesBytes ((step fresh item1) .replies)); state = encode run1; reply = laidOver (repliesBytes ((step fresh item1) .replies)) (lent1 .reply) }
-  unfolding run1 lend empty
-  answer1 = does-work work fresh lent1 item1 fresh-sound refl read1 (unfold fresh in passes .0) ∙ rw right
+  abbrev events : List Event
+  events = call one lent1 ∷ call one lent2 ∷ []
 
-  state1 : held1 .bytes ≡ encode run1
-  unfolding heldAfter
-  state1 = ap (λ (a : Answer). a .state) answer1
+  abbrev start : World
+  start = begin freshCall does buffers
 
-  position1 : held1 .position ≡ 1
-  unfolding heldAfter lend empty fresh
-  position1 =
-      let t : T (took (callBy work lent1)) = rw answer1 (count-took ((step fresh item1) .replies) _ _) in
-      rw (is-true (took (callBy work lent1)) t, numbered1)
+  events-befall : Befalls freshCall does start events
+  unfolding begin after replace holding called
+  events-befall = ((refl, tt), ((refl, tt), tt))
+
+  events-no-clash : NoClash (inputs events)
+  unfolding inputs inputOf
+  events-no-clash = stream-no-clash
+
+  abbrev call1 : Called
+  call1 = record { side = one; position = 0; lent = lent1 }
 
   abbrev call2 : Called
-  call2 = record { side = one; position = held1 .position; lent = lend held1 record2 }
+  call2 = record { side = one; position = positionAfter freshCall does 0 lent1; lent = lent2 }
 
-  shut-out : Answers (callBy work) stream → ⊥
-  unfolding callsFrom lend
-  shut-out claim =
-      let listed : List·Memᴰ call2 (callsFrom (callBy work) empty stream) = List·Memᴰ·tail (List·Memᴰ·head refl) in
-      let t : TakenBy (callBy work) stream call2 = claim call2 listed (rw position1 (passes .1)) in
-      let run-is : t .run ≡ run1 = Option·some-injective (t .run) run1 (sym (t .reached) ∙ ap (runAt stream) position1 ∙ run-at1) in
-      let did = work-replies work run1 (lend held1 record2) item2 run1-sound state1 read2 (rw last1 (passes .1)) in
-      wrong (sym did ∙ t .replies ∙ rw run-is)
+  module _ (demand : Demand3Of freshCall does) where
+    claim : Claim freshCall does start events
+    claim = demand buffers buffers-fresh events events-befall events-no-clash
 
--- ---- each of the three
+    taken1 : Taken freshCall does (inputs events) call1
+    unfolding calls callOf positionOf begin holding
+    taken1 = subst (Answered freshCall does (inputs events) call1) (passes .0) (claim .answers call1 (List·Memᴰ·head refl))
 
-pub advancing-shut-out : Answers (callBy merelyAdvances) stream → ⊥
+    from-fresh : taken1 .run ≡ fresh
+    unfolding runAt
+    from-fresh = Option·some-injective (taken1 .run) fresh (sym (taken1 .reached))
+
+    first-count : (does lent1) .returned ≡ 18
+    first-count = taken1 .count ∙ rw from-fresh count1
+
+    state1 : (does lent1) .state ≡ encode run1
+    unfolding run1
+    state1 = taken1 .state ∙ rw (from-fresh, step1)
+
+    position1 : positionAfter freshCall does 0 lent1 ≡ 1
+    unfolding positionAfter
+    position1 = rw (is-true (took (does lent1)) (taken1 .taken), numbered1)
+
+    taken2 : Taken freshCall does (inputs events) call2
+    unfolding calls callOf positionOf begin after replace holding called
+    taken2 =
+        let pass = ap (λ (p : ℕ). refusalAt p record2 (zeros replySize)) position1 ∙ passes .1 in
+        subst (Answered freshCall does (inputs events) call2) pass (claim .answers call2 (List·Memᴰ·tail (List·Memᴰ·head refl)))
+
+    from-run1 : taken2 .run ≡ run1
+    unfolding inputs inputOf
+    from-run1 = Option·some-injective (taken2 .run) run1 (sym (taken2 .reached) ∙ ap (runAt stream) position1 ∙ run-at1)
+
+    second-count : (does lent2) .returned ≡ replyHeaderSize
+    second-count = taken2 .count ∙ rw from-run1 (ap length replies2)
+
+    second-reply : replyBytesOf freshCall does call2 ≡ reply2
+    second-reply = taken2 .replies ∙ rw from-run1 replies2
+
+-- a program that answers record 2 otherwise than the run
+shut-out : (work : Run → Record → Turn) → (repliesBytes ((work run1 item2) .replies) ≡ reply2 → ⊥) → Demand3Of freshCall (callBy work) → ⊥
+shut-out work wrong demand =
+    let did = work-replies work run1 (lent2 (callBy work)) item2 run1-sound (state1 (callBy work) demand) read2 (rw last1 (passes .1)) in
+    wrong (sym did ∙ second-reply (callBy work) demand)
+
+-- ---- demand 3 is false of each of the six
+
+pub advancing-shut-out : Demand3Of freshCall (callBy merelyAdvances) → ⊥
 unfolding computes merelyAdvances item1 item2 run1
-advancing-shut-out = shut-out merelyAdvances refl (λ e. let n : _≡_ {A = ℕ} 0 replyHeaderSize = ap length e in omega arith)
+advancing-shut-out = shut-out merelyAdvances (λ e. let n : _≡_ {A = ℕ} 0 replyHeaderSize = ap length e in omega arith)
 
-pub waiting-shut-out : Answers (callBy leavesWaiting) stream → ⊥
+pub waiting-shut-out : Demand3Of freshCall (callBy leavesWaiting) → ⊥
 unfolding computes leavesWaiting onStatements statementOf item1 item2 run1
-waiting-shut-out = shut-out leavesWaiting refl (λ e. let n : _≡_ {A = ℕ} 0 replyHeaderSize = ap length e in omega arith)
+waiting-shut-out = shut-out leavesWaiting (λ e. let n : _≡_ {A = ℕ} 0 replyHeaderSize = ap length e in omega arith)
 
 -- the outcome stands in byte 9 of a reply, and the run's is 0
-untried-shut-out : (n b : ℕ) → (n ≡ 0 → ⊥) → Answers (callBy (answersUntried n b)) stream → ⊥
+untried-shut-out : (n b : ℕ) → (n ≡ 0 → ⊥) → Demand3Of freshCall (callBy (answersUntried n b)) → ⊥
 unfolding computes answersUntried onStatements statementOf item1 item2 run1
-untried-shut-out n b differs = shut-out (answersUntried n b) refl (λ e. differs (ap (λ (bytes : Bytes). getD bytes 9 0) e))
+untried-shut-out n b differs = shut-out (answersUntried n b) (λ e. differs (ap (λ (bytes : Bytes). getD bytes 9 0) e))
 
 -- no guard tried: 18, with no branch
-pub untried-18-shut-out : Answers (callBy (answersUntried 18 0)) stream → ⊥
+pub untried-18-shut-out : Demand3Of freshCall (callBy (answersUntried 18 0)) → ⊥
 untried-18-shut-out = untried-shut-out 18 0 (λ e. omega arith)
 
 -- no body tried: 16, in branch 1
-pub untried-16-shut-out : Answers (callBy (answersUntried 16 1)) stream → ⊥
+pub untried-16-shut-out : Demand3Of freshCall (callBy (answersUntried 16 1)) → ⊥
 untried-16-shut-out = untried-shut-out 16 1 (λ e. omega arith)
+
+pub sends-back-shut-out : (n : ℕ) → n ≤ 5 → Demand3Of freshCall (sendsBack n) → ⊥
+unfolding sendsBack turnedBack
+sends-back-shut-out n few demand = let c : n ≡ 18 = first-count (sendsBack n) demand in omega arith
+
+pub fixed-shut-out : (bytes : Bytes) (left : Lent → Bytes) → Demand3Of freshCall (fixedReply bytes left) → ⊥
+unfolding fixedReply
+fixed-shut-out bytes left demand =
+    let c : length bytes ≡ 18 = first-count (fixedReply bytes left) demand in
+    let d : length bytes ≡ replyHeaderSize = second-count (fixedReply bytes left) demand in
+    omega arith
+
+pub inert-shut-out : Demand3Of freshCall inert → ⊥
+unfolding inert
+inert-shut-out demand = let c : _≡_ {A = ℕ} 0 18 = first-count inert demand in omega arith
 
 -- ---- the contract of the call shuts out all six, at a named input
 
 -- record 1 on the fresh state; record 2 on the state after it
 pub first-call : Lent
-first-call = lend empty record1
+first-call = lend (encode fresh) record1
 
 pub second-call : Lent
-second-call = record { state = encode run1; input = record2; reply = zeros replySize }
+second-call = lend (encode run1) record2
 
 -- what is returned there, where `work` is done in place of the run's step
 first-returned : (work : Run → Record → Turn) → (callBy work first-call) .returned ≡ length (repliesBytes ((work fresh item1) .replies))
-unfolding first-call lend empty
+unfolding first-call
 first-returned work = ap (λ (a : Answer). a .returned) (does-work work fresh first-call item1 fresh-sound refl read1 (unfold fresh in passes .0))
 
 second-returned : (work : Run → Record → Turn) → (callBy work second-call) .returned ≡ length (repliesBytes ((work run1 item2) .replies))
@@ -316,58 +305,52 @@ unfolding second-call
 second-returned work = ap (λ (a : Answer). a .returned) (does-work work run1 second-call item2 run1-sound refl read2 (rw last1 (passes .1)))
 
 -- the call's own: a reply with one value, then one with none
-first-count : (takeCall first-call) .returned ≡ 18
+first-is : (takeCall first-call) .returned ≡ 18
 unfolding computes item1
-first-count = sym (ap (λ (a : Answer). a .returned) (callBy-step first-call)) ∙ first-returned step
+first-is = sym (ap (λ (a : Answer). a .returned) (callBy-step first-call)) ∙ first-returned step
 
-second-count : (takeCall second-call) .returned ≡ replyHeaderSize
+second-is : (takeCall second-call) .returned ≡ replyHeaderSize
 unfolding computes item1 item2 run1
-second-count = sym (ap (λ (a : Answer). a .returned) (callBy-step second-call)) ∙ second-returned step
+second-is = sym (ap (λ (a : Answer). a .returned) (callBy-step second-call)) ∙ second-returned step
 
 -- "works the first record and merely advances afterwards"
 pub advancing-differs : callBy merelyAdvances second-call ≡ takeCall second-call → ⊥
 unfolding computes merelyAdvances item1 item2 run1
-advancing-differs e = let n : _≡_ {A = ℕ} 0 replyHeaderSize = sym (second-returned merelyAdvances) ∙ ap (λ (a : Answer). a .returned) e ∙ second-count in omega arith
+advancing-differs e = let n : _≡_ {A = ℕ} 0 replyHeaderSize = sym (second-returned merelyAdvances) ∙ ap (λ (a : Answer). a .returned) e ∙ second-is in omega arith
 
 -- "leaves every statement waiting"
 pub waiting-differs : callBy leavesWaiting second-call ≡ takeCall second-call → ⊥
 unfolding computes leavesWaiting onStatements statementOf item1 item2 run1
-waiting-differs e = let n : _≡_ {A = ℕ} 0 replyHeaderSize = sym (second-returned leavesWaiting) ∙ ap (λ (a : Answer). a .returned) e ∙ second-count in omega arith
+waiting-differs e = let n : _≡_ {A = ℕ} 0 replyHeaderSize = sym (second-returned leavesWaiting) ∙ ap (λ (a : Answer). a .returned) e ∙ second-is in omega arith
 
 -- "answers 18 or 16 untried": the outcome stands in byte 9
-second-reply : (work : Run → Record → Turn) → take ((callBy work second-call) .returned) ((callBy work second-call) .reply) ≡ repliesBytes ((work run1 item2) .replies)
+second-given : (work : Run → Record → Turn) → take ((callBy work second-call) .returned) ((callBy work second-call) .reply) ≡ repliesBytes ((work run1 item2) .replies)
 unfolding second-call
-second-reply work = work-replies work run1 second-call item2 run1-sound refl read2 (rw last1 (passes .1))
+second-given work = work-replies work run1 second-call item2 run1-sound refl read2 (rw last1 (passes .1))
 
 pub untried-differs : (n b : ℕ) → (n ≡ 0 → ⊥) → callBy (answersUntried n b) second-call ≡ takeCall second-call → ⊥
 unfolding computes answersUntried onStatements statementOf item1 item2 run1
 untried-differs n b differs e =
     let given : Answer → Bytes = λ a. take (a .returned) (a .reply) in
-    differs (ap (λ (bytes : Bytes). getD bytes 9 0) (sym (second-reply (answersUntried n b)) ∙ ap given (e ∙ sym (callBy-step second-call)) ∙ second-reply step))
+    differs (ap (λ (bytes : Bytes). getD bytes 9 0) (sym (second-given (answersUntried n b)) ∙ ap given (e ∙ sym (callBy-step second-call)) ∙ second-given step))
 
--- "sends every record back", by whatever number
-pub sends-back-differs : (n : ℕ) → n ≤ 5 → turnedBack first-call n ≡ takeCall first-call → ⊥
-unfolding turnedBack
-sends-back-differs n few e = let c : n ≡ 18 = ap (λ (a : Answer). a .returned) e ∙ first-count in omega arith
+-- "sends every record back"
+pub sends-back-differs : (n : ℕ) → n ≤ 5 → sendsBack n first-call ≡ takeCall first-call → ⊥
+unfolding sendsBack turnedBack
+sends-back-differs n few e = let c : n ≡ 18 = ap (λ (a : Answer). a .returned) e ∙ first-is in omega arith
 
--- "giving a fixed reply", whatever it leaves of the state
-pub fixedReply : Bytes → (left : Lent → Bytes) → Lent → Answer
-fixedReply bytes left l = answer (length bytes) (left l) (laidOver bytes (l .reply))
-
+-- "giving a fixed reply"
 pub fixed-differs : (bytes : Bytes) (left : Lent → Bytes) → ((l : Lent) → fixedReply bytes left l ≡ takeCall l) → ⊥
 unfolding fixedReply
 fixed-differs bytes left e =
-    let one : length bytes ≡ 18 = ap (λ (a : Answer). a .returned) (e first-call) ∙ first-count in
-    let two : length bytes ≡ replyHeaderSize = ap (λ (a : Answer). a .returned) (e second-call) ∙ second-count in
+    let one : length bytes ≡ 18 = ap (λ (a : Answer). a .returned) (e first-call) ∙ first-is in
+    let two : length bytes ≡ replyHeaderSize = ap (λ (a : Answer). a .returned) (e second-call) ∙ second-is in
     omega arith
 
 -- "one inert"
-pub inert : Lent → Answer
-inert l = answer 0 (l .state) (l .reply)
-
 pub inert-differs : inert first-call ≡ takeCall first-call → ⊥
 unfolding inert
-inert-differs e = let c : _≡_ {A = ℕ} 0 18 = ap (λ (a : Answer). a .returned) e ∙ first-count in omega arith
+inert-differs e = let c : _≡_ {A = ℕ} 0 18 = ap (λ (a : Answer). a .returned) e ∙ first-is in omega arith
 
 -- ---- a program that answers the statements that a crash drops: "drops that host's waiting statements without reply"
 
@@ -420,7 +403,7 @@ unfolding computes run2 item-waits run1 item1
 passes-crash = refl
 
 pub third-call : Lent
-third-call = record { state = encode run2; input = crash3; reply = zeros replySize }
+third-call = lend (encode run2) crash3
 
 third-returned : (work : Run → Record → Turn) → (callBy work third-call) .returned ≡ length (repliesBytes ((work run2 item-crash) .replies))
 unfolding third-call
