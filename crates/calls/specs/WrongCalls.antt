@@ -1,4 +1,4 @@
--- What demand 3 and the contract of the call shut out: the six programs of "Four lines on contracts", each as a definition of the call. Demand 3 is false of each, at two records. The contract: each differs from the call at a named input. Assumes nothing.
+-- What demand 3 and the contract of the call shut out: the six programs of "Four lines on contracts" and two more, each as a definition of the call. Demand 3 is false of the six and of `silent`, by two records. By the contract the six and `answersDropped` differ from the call at a named input. Assumes nothing.
 use mathlib.Core.Path.{_≡_, refl, sym, ap, subst, _∙_}
 use Prim.Native.Nat.{ℕ, _≤_}
 use native.Mathlib.Omega.{arith}
@@ -7,7 +7,7 @@ use mathlib.Core.Option.{Option, none, some, Option·some-injective}
 use mathlib.Core.List.{List, [], _∷_, _++_, map, List·Memᴰ·head, List·Memᴰ·tail}
 use lib.ListN.{length, take, drop, getD}
 use lib.Seq.{take-at}
-use lib.Dec.{T, eqb}
+use lib.Dec.{eqb}
 use Rattle.basis.specs.Choice.{maybe, firstNumber}
 use Rattle.basis.specs.Logic.{is-true}
 use Rattle.basis.specs.Lists.{any, keep, zeros}
@@ -84,6 +84,10 @@ fixedReply bytes left l = answer (length bytes) (left l) (laidOver bytes (l .rep
 pub inert : Lent → Answer
 inert l = answer 0 (l .state) (l .reply)
 
+-- and one that returns the count and leaves the state, and writes no reply byte
+pub silent : Lent → Answer
+silent l = answer ((takeCall l) .returned) ((takeCall l) .state) (l .reply)
+
 -- ---- two records at which each is found out
 
 -- RV 2 at 1; at 2, process 6: true, then out(0, name 7, 41)
@@ -138,7 +142,7 @@ count1 : length (repliesBytes ((stepBytes fresh record1) .replies)) ≡ 18
 unfolding computes
 count1 = refl
 
-abbrev pub reply2 : Bytes
+abbrev reply2 : Bytes
 reply2 = 82 ∷ 80 ∷ 0 ∷ 0 ∷ 0 ∷ 2 ∷ 2 ∷ 0 ∷ 6 ∷ 0 ∷ 1 ∷ 0 ∷ []
 
 replies2 : repliesBytes ((stepBytes run1 record2) .replies) ≡ reply2
@@ -172,7 +176,7 @@ work-replies work s l r h e q pass =
 
 -- ---- what demand 3 says of a call at the two records
 
-abbrev pub lend : (state input : Bytes) → Lent
+abbrev lend : (state input : Bytes) → Lent
 lend state input = record { state = state; input = input; reply = zeros replySize }
 
 module _ (does : Lent → Answer) where
@@ -248,7 +252,7 @@ shut-out work wrong demand =
     let did = work-replies work run1 (lent2 (callBy work)) item2 run1-sound (state1 (callBy work) demand) read2 (rw last1 (passes .1)) in
     wrong (sym did ∙ second-reply (callBy work) demand)
 
--- ---- demand 3 is false of each of the six
+-- ---- demand 3 is false of each
 
 pub advancing-shut-out : Demand3Of freshCall (callBy merelyAdvances) → ⊥
 unfolding computes merelyAdvances item1 item2 run1
@@ -285,6 +289,13 @@ fixed-shut-out bytes left demand =
 pub inert-shut-out : Demand3Of freshCall inert → ⊥
 unfolding inert
 inert-shut-out demand = let c : _≡_ {A = ℕ} 0 18 = first-count inert demand in omega arith
+
+pub silent-shut-out : Demand3Of freshCall silent → ⊥
+unfolding computes silent
+silent-shut-out demand =
+    let e = subst (λ (n : ℕ). take n (zeros replySize) ≡ reply2) (second-count silent demand) (second-reply silent demand) in
+    let z : _≡_ {A = ℕ} 0 82 = ap (λ (bytes : Bytes). getD bytes 0 0) e in
+    omega arith
 
 -- ---- the contract of the call shuts out all six, at a named input
 
