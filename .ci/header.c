@@ -1,7 +1,9 @@
 /*
  * What a compiler can hold the header to, as C99 and as C++: the places of the structs' parts, which the library takes
- * for granted, and the number of the layout, which is the library's. Exit status 0 where the number agrees.
+ * for granted, and that the library is called as the header declares it. Exit status 0 where its answers are right.
  */
+#include <string.h>
+
 #include "replica.h"
 
 #define IS(name, truth) typedef char name[(truth) ? 1 : -1]
@@ -20,7 +22,39 @@ IS(fields, offsetof(replica_addition, fields) == 16);
 IS(six, sizeof(((replica_addition *)0)->fields) == 6 * sizeof(replica_field));
 IS(addition, sizeof(replica_addition) == 64);
 
+/* Two branches: true, then move from 1 to 2 of any name alone; rd(3, metres 1.0, whole into 9). */
+static int writer(void)
+{
+    static const uint8_t expected[] = {2, 1, 4, 2, 0, 1, 6, 1, 2, 1, 5, 1, 3, 3, 2, 0, 2, 0x3F, 0x80, 0, 0, 1, 0, 9, 0};
+    uint8_t body[REPLICA_BODY_BYTES];
+    size_t fill = 0;
+    replica_addition first, move, rd;
+    memset(&first, 0, sizeof first);
+    memset(&move, 0, sizeof move);
+    memset(&rd, 0, sizeof rd);
+    first.code = REPLICA_CODE_TRUE;
+    move.code = REPLICA_CODE_MOVE;
+    move.from = 1;
+    move.to = 2;
+    move.count = 1;
+    move.fields[0].form = REPLICA_FORM_ANONYMOUS;
+    move.fields[0].kind = REPLICA_KIND_NAME;
+    rd.code = REPLICA_CODE_RD;
+    rd.from = 3;
+    rd.count = 2;
+    rd.fields[0].form = REPLICA_FORM_ACTUAL;
+    rd.fields[0].kind = REPLICA_KIND_METRES;
+    rd.fields[0].bits = 0x3F800000;
+    rd.fields[1].form = REPLICA_FORM_FORMAL;
+    rd.fields[1].kind = REPLICA_KIND_WHOLE;
+    rd.fields[1].variable = 9;
+    return replica_begin(body, sizeof body, &fill, 2, 260, first) == 0 &&
+           replica_operation(body, sizeof body, &fill, move) == 0 &&
+           replica_branch(body, sizeof body, &fill, rd) == 0 && fill == sizeof expected &&
+           memcmp(body, expected, sizeof expected) == 0;
+}
+
 int main(void)
 {
-    return replica_layout() == REPLICA_LAYOUT ? 0 : 1;
+    return replica_layout() == REPLICA_LAYOUT && writer() ? 0 : 1;
 }

@@ -19,12 +19,14 @@
  *  - A call needs at most REPLICA_STACK_BYTES bytes of stack.
  *
  * Conditions of use. The compiler sees to the first alone; no call can notice that another is broken:
- *  - x86-64 with the System V calling convention, which is not that of Windows, and with pointers of 8 bytes.
+ *  - x86-64 with the System V calling convention, which is not that of Windows, and with pointers of 8 bytes. (That a
+ *    file is compiled with -mabi=ms, the header cannot see.)
+ *  - SSE is on, and whatever interrupts a call keeps the xmm registers and MXCSR for it.
  *  - The stack pointer is aligned to 16 bytes at each call, as that convention asks. A start-up file or a task switch
  *    of your own has to see to it.
- *  - The 128 bytes below the stack pointer (the red zone) belong to the call while it runs: no interrupt may share its
+ *  - The 128 bytes below the stack pointer (the red zone) belong to the call while it runs: no interrupt may share the
  *    stack. On Linux the kernel leaves them alone; on bare metal give interrupts a stack of their own.
- *  - memcpy, memmove and memset are yours, of a C library or written by you, and do what C says. The stack was measured
+ *  - memcpy, memmove and memset are yours, of a C library or written by you, and do what C says. The stack is measured
  *    with those of glibc; what yours need beyond theirs comes on top.
  *  - The floating-point mode is the one that a process starts with (MXCSR 0x1F80): rounding to nearest, denormals
  *    kept, no exception unmasked. Sums of metres use it, and in another mode replicas come to differ. A program that
@@ -47,7 +49,8 @@ extern "C" {
 /*
  * The number of the bytes and of their meaning. Whatever changes a byte of a record, a reply or a state, or what one
  * means, raises it; 1 is document 01's. replica_layout returns the library's own: at a fit-up compare it with the
- * header's, and between cabinets. Cabinets whose numbers differ must not read one stream, nor copy each other's state.
+ * header's, and between cabinets. Cabinets whose numbers differ must not read one stream, nor copy a state from each
+ * other.
  */
 #define REPLICA_LAYOUT 1
 uint64_t replica_layout(void);

@@ -7,7 +7,7 @@ use statements::Operation;
 
 mod steps;
 
-// Which bytes these are, and which meaning they have, so that two replicas can be compared.
+// The number of the layout, that is of the bytes and of their meaning, so that two replicas can be compared.
 #[no_mangle]
 pub extern "C" fn replica_layout() -> u64
     ensures { λ r. ⌜ r ≡ layoutNumber ⌝ }

@@ -136,7 +136,7 @@ fn print_taken(rows: &[Row], samples: usize, unit: f64, clock: f64) {
     for row in rows {
         agree(row);
         let [check, whole, rest] = Timed::new(LIBRARY, row, clock).taken(numbers(samples), 1);
-        let [_, second, _] = Timed::new(REFERENCE, row, clock).taken(numbers(samples / 20), 1);
+        let [_, second, _] = Timed::new(REFERENCE, row, clock).taken(numbers(samples.div_ceil(20)), 1);
         let columns = [check.least, check.median, rest.least, rest.median].map(|time| time / unit);
         let columns: String = columns.iter().map(|units| format!(" {units:8.2}")).collect();
         println!("{:46}{columns} {:11.0} {:8.1}", row.name, whole.least, second.least / whole.least);
@@ -148,7 +148,7 @@ fn print_refused(rows: &[Row], samples: usize, unit: f64, clock: f64) {
     for row in rows {
         agree(row);
         let whole = Timed::new(LIBRARY, row, clock).refused(0..samples);
-        let second = Timed::new(REFERENCE, row, clock).refused(0..samples / 20);
+        let second = Timed::new(REFERENCE, row, clock).refused(0..samples.div_ceil(20));
         let columns = [whole.least, whole.median].map(|time| time / unit);
         let columns: String = columns.iter().map(|units| format!(" {units:8.3}")).collect();
         println!("{:46}{columns} {:11.1} {:8.1}", row.name, whole.least, second.least / whole.least);

@@ -54,14 +54,17 @@ fn each_cut(state: &mut [u8], record: &[u8], mut show: impl FnMut(&[u8])) {
     let process = unsafe { fork() };
     assert!(process >= 0, "no process");
     if process == 0 {
-        unsafe { ptrace(TRACE_ME, 0, none, none) };
+        let traced = unsafe { ptrace(TRACE_ME, 0, none, none) } == 0;
+        assert!(traced, "no leave to trace a process");
         unsafe { raise(STOP) };
         PHASE.store(1, Ordering::SeqCst);
         (LIBRARY.take)(state, record, &mut reply);
         PHASE.store(2, Ordering::SeqCst);
         loop {}
     }
-    unsafe { waitpid(process, &mut 0, 0) };
+    let mut status = 0;
+    unsafe { waitpid(process, &mut status, 0) };
+    assert_eq!(status & 0xFF, 0x7F, "the process was not stopped");
     let place = unsafe { std::slice::from_raw_parts(PHASE.as_ptr(), 1) };
     let (mut phase, mut seen) = ([0], vec![0; STATE_BYTES]);
     while phase[0] < 2 && stepped(process) {
