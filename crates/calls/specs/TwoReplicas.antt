@@ -1,4 +1,4 @@
--- "Two cabinets" (a cabinet is a replica here): what may befall two replicas, and the claim over every list of it, for any two calls; demand 3 is the claim at the calls. No proof stands here. Assumes nothing.
+-- "Two cabinets" (a cabinet is a replica here): what may befall two replicas, and the claim over every list of it, for any two calls; demand 3 is the claim at `freshCall` and `takeCall`. No proof stands here. Assumes nothing.
 use mathlib.Core.Path.{_≡_}
 use Prim.Native.Nat.{ℕ, zero, suc}
 use mathlib.Core.Bool.{Bool, true, false, cond, _||_}
@@ -163,9 +163,11 @@ pub record OfRun (xs : List Bytes) (h : Held) : Type 0 where
   pub bytes : h .bytes ≡ encode run
   pub quiet : Quiet run
 
--- ---- the claim, for any two calls: the fresh-state call and the call for a record
+-- ---- for any two calls: the fresh-state call and the call for a record
 
 module _ (freshState : Bytes → FreshAnswer) (takeRecord : Lent → Answer) where
+  -- ---- what an event does, with these calls
+
   -- "then the number of each record it takes"
   unfoldable pub positionAfter : ℕ → Lent → ℕ
   positionAfter p l = cond (took (takeRecord l)) (maybe (numberOf (l .input)) p (λ n. n)) p
@@ -193,6 +195,8 @@ module _ (freshState : Bytes → FreshAnswer) (takeRecord : Lent → Answer) whe
   unfoldable pub begin : (buffers : Side → Bytes) → World
   begin buffers c = holding (record { position = 0; bytes = (freshState (buffers c)) .state }) (record { condition = stopped (buffers c); history = [] })
 
+  -- ---- the calls of a list, with these answers
+
   abbrev pub answer : Called → Answer
   answer k = takeRecord (k .lent)
 
@@ -203,6 +207,8 @@ module _ (freshState : Bytes → FreshAnswer) (takeRecord : Lent → Answer) whe
   unfoldable pub calls : World → List Event → List Called
   calls w [] = []
   calls w (e ∷ es) = callOf w e ++ calls (after w e) es
+
+  -- ---- the claim
 
   -- a call that took its record: it was the next, the state bytes and the reply bytes, own and woken, are the run's
   pub record Taken (xs : List Bytes) (k : Called) : Type 0 where
@@ -248,6 +254,6 @@ module _ (freshState : Bytes → FreshAnswer) (takeRecord : Lent → Answer) whe
       (buffers : Side → Bytes) → ((c : Side) → length (buffers c) ≡ stateSize)
       → (es : List Event) → Befalls (begin buffers) es → NoClash (inputs es) → Claim (begin buffers) es
 
--- DEMAND 3: the claim, at the calls
+-- DEMAND 3: the claim, at `freshCall` and `takeCall`
 abbrev pub Demand3 : Type 0
 Demand3 = Demand3Of freshCall takeCall
