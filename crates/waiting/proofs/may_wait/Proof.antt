@@ -18,7 +18,7 @@ host-up-requires c κs = search needs
 returns : tie.Need-returns
 returns c =
     let up = c .before in
-    no-host _ _ 0 _ (let s = up .before .before .before .before in (waitingNth (s .args .waiting .now) (s .args .n) (s .args .i))) noStatement _ (up .before .host .ensures .0) (up .host-up .ensures) (not-true _ (c .if1 .taken))
+    no-host _ _ 0 _ (let s = up .before .before .before .before in (waitingNth (s .args .waiting .now) (s .args .n) (s .args .i))) noStatement _ (up .before .host .ensures .0) (up .host-up .ensures) (not-true (up .host-up .result) (c .if1 .taken))
 
 body-at-requires : tie.Need-body-at-requires
 body-at-requires c κs = search needs
