@@ -5,29 +5,32 @@ use Prim.Native.Nat.{ℕ, zero, suc, _+_, _<_}
 use native.Mathlib.Omega.{arith}
 use mathlib.Core.Bool.{Bool, true, false, not, _||_, or-true, or-false, or-assoc}
 use mathlib.Core.Option.{none, some}
-use mathlib.Core.List.{List, [], _∷_, map, flatMap, List·Memᴰ, List·Memᴰ·head, List·Memᴰ·tail, List·Memᴰ·not-nil, Memᴰ·append-right, Memᴰ·map, Memᴰ·of-map}
+use mathlib.Core.List.{List, [], _∷_, map, flatMap, List·Memᴰ, List·Memᴰ·head, List·Memᴰ·tail, List·Memᴰ·not-nil, Memᴰ·map, Memᴰ·of-map}
 use lib.ListN.{length, length-map, getD, set, replicate}
 use lib.Seq.{getD-set-same, getD-set-other}
 use lib.Dec.{T, T-not, eqb, eqb→eq}
 use Rattle.basis.specs.Choice.{isSome}
 use Rattle.basis.specs.Logic.{and-l, and-r, not-eq}
 use Rattle.basis.specs.Lists.{any, keep, isIn, countFrom}
-use Rattle.basis.specs.ListLaws.{Each, all-at, keep-true, keep-member}
-use Rattle.basis.specs.IndexLaws.{Decides}
+use Rattle.basis.specs.ListLaws.{keep-true, keep-member}
+use Rattle.basis.specs.IndexLaws.{Decides, Least}
 use Rattle.basis.specs.Sizes.{variables}
 use Rattle.model.specs.Value.{Value}
 use Rattle.model.specs.Statement.{Field, actual, formal, reference, sum, difference, anonymous, Operation, always, lookup, deposit, transfer, Branch, operations, Statement}
 use Rattle.model.specs.Legal.{Kinds, noKinds, formOf, bindKind, bindKinds, legalFields, fieldsOf, legalOperation, legalOperations, legalBranch, legalStatement}
 use Rattle.model.specs.LegalWords.{InLookup, InOut, InTransfer, FieldOk, OperationOk, BranchOk, Throughout, throughout-in}
+use Rattle.model.specs.LegalFields.{clash}
 use Rattle.model.specs.LegalLaws.{branch-iff}
 use Rattle.model.specs.Matching.{Tuple, Bindings, unbound, bindField, bind}
 use Rattle.model.specs.MatchingLaws.{bindField-length}
-use Rattle.model.specs.Execution.{Result, done, failed, perform, performAll, Executed}
-use Rattle.model.specs.OperationLaws.{Taken, always-done, in-removes, rd-reads, out-appends, move-moves, copy-copies}
-use Rattle.model.specs.ExecutionLaws.{Runs, performed-in-order, failure-number}
+use Rattle.model.specs.Execution.{Result, done, failed, perform, performAll, Executed, attempt, tuplesAfter}
+use Rattle.model.specs.OperationLaws.{done-bindings, Taken, always-done, in-removes, rd-reads, out-appends, move-moves, copy-copies, least-in}
+use Rattle.model.specs.ExecutionLaws.{Holds, Runs, attempt-runs, performed-in-order, failure-number}
 use Rattle.model.specs.CheckLaws.{Some, any-iff, equal-iff}
 use Rattle.model.specs.BoundKinds.{fields-cons}
-use Rattle.model.specs.Run.{Reply, boundFrom, outcomeOf, valuesOf, ranReply}
+use Rattle.model.specs.Keeps.{legal-branches}
+use Rattle.model.specs.Run.{Reply, boundFrom, ranReply}
+use Rattle.model.specs.RunLaws.{Ends, Answered, answered-words, bound-only}
 
 -- ---- what a branch binds, by its text alone
 
@@ -40,19 +43,19 @@ bindsField x (sum y v) = false
 bindsField x (difference y v) = false
 bindsField x (anonymous k) = false
 
--- some field of the operation does
+-- a field that binds the variable stands in the operation
 unfoldable pub bindsOperation : (variable : ℕ) → Operation → Bool
 bindsOperation x o = any (bindsField x) (fieldsOf o)
 
--- such a field stands in the guard or body
+-- a field that binds the variable stands in the guard or body
 unfoldable pub binds : Branch → (variable : ℕ) → Bool
 binds b x = any (bindsOperation x) (operations b)
 
--- the same in words: a field of form 1 and of that variable
+-- in words: the field is of form 1 and of that variable
 abbrev pub BindsField : (variable : ℕ) → Field → Type 0
 BindsField x f = (k : ℕ) × (f ≡ formal k x)
 
--- such a field stands in the guard or body
+-- in words: some field of some operation of the guard and body binds the variable
 abbrev pub Binds : Branch → (variable : ℕ) → Type 0
 Binds b x = Some (λ (o : Operation). Some (BindsField x) (fieldsOf o)) (b .guard ∷ b .body)
 
@@ -62,9 +65,6 @@ pub record Valued (b : Branch) (r : Reply) : Type 0 where
   pub exactly : (x : ℕ) → ((v : Value) × List·Memᴰ (x, v) (r .values)) ↔ Binds b x
 
 -- ---- the test is the words
-
-clash : {A : Type 0} → _≡_ {A = ℕ} 0 1 → A
-clash z = absurd (omega arith)
 
 field-iff : (x : ℕ) → Decides (bindsField x) (BindsField x)
 unfolding bindsField
@@ -175,19 +175,16 @@ transfer-binds : (ks : Kinds) (withdraws : Bool) (from to : ℕ) (fs : List Fiel
 unfolding legalOperation isIn any
 transfer-binds ks withdraws from to fs x t = no-form-1 (0 ∷ 2 ∷ 5 ∷ []) ks ks fs x tt (search (and-l, and-r, t) depth 6)
 
-same-bindings : (bs : Bindings) (ts : List Tuple) (bs′ : Bindings) (ts′ : List Tuple) → done bs ts ≡ done bs′ ts′ → bs′ ≡ bs
-same-bindings bs ts bs′ ts′ e = cc
-
 -- an operation that is done binds what its fields bind
 operation-binds : (ks : Kinds) (o : Operation) (bs : Bindings) (ts : List Tuple) (bs′ : Bindings) (ts′ : List Tuple) → T (legalOperation ks o) → perform o bs ts ≡ done bs′ ts′
     → More (λ x. bindsOperation x o) bs bs′
 unfolding bindsOperation fieldsOf any
-operation-binds ks always bs ts bs′ ts′ t e = more-nothing (λ x. false) bs bs′ (same-bindings bs ts bs′ ts′ (sym (always-done bs ts) ∙ e)) (λ x. refl)
+operation-binds ks always bs ts bs′ ts′ t e = more-nothing (λ x. false) bs bs′ (done-bindings bs bs′ ts ts′ (sym (always-done bs ts) ∙ e)) (λ x. refl)
 operation-binds ks (lookup true blocks s fs) bs ts bs′ ts′ t e = taken-binds s fs bs ts bs′ (in-removes blocks s fs bs ts bs′ ts′ e .0)
 operation-binds ks (lookup false blocks s fs) bs ts bs′ ts′ t e = taken-binds s fs bs ts bs′ (rd-reads blocks s fs bs ts bs′ ts′ e .0)
 operation-binds ks (deposit s fs) bs ts bs′ ts′ t e = more-nothing (λ x. any (bindsField x) fs) bs bs′ (out-appends s fs bs ts bs′ ts′ e .3) (λ x. out-binds ks s fs x t)
 operation-binds ks (transfer true from to fs) bs ts bs′ ts′ t e =
-    more-nothing (λ x. any (bindsField x) fs) bs bs′ (same-bindings bs _ bs′ ts′ (sym (move-moves from to fs bs ts .3) ∙ e)) (λ x. transfer-binds ks true from to fs x t)
+    more-nothing (λ x. any (bindsField x) fs) bs bs′ (done-bindings bs bs′ _ ts′ (sym (move-moves from to fs bs ts .3) ∙ e)) (λ x. transfer-binds ks true from to fs x t)
 operation-binds ks (transfer false from to fs) bs ts bs′ ts′ t e =
     more-nothing (λ x. any (bindsField x) fs) bs bs′ (copy-copies from to fs bs ts bs′ ts′ e .4) (λ x. transfer-binds ks false from to fs x t)
 
@@ -195,7 +192,7 @@ operation-binds ks (transfer false from to fs) bs ts bs′ ts′ t e =
 operations-bind : (ks : Kinds) (os : List Operation) (bs : Bindings) (ts : List Tuple) (bs′ : Bindings) (ts′ : List Tuple) → T (legalOperations ks os) → performAll os bs ts ≡ done bs′ ts′
     → More (λ x. any (bindsOperation x) os) bs bs′
 unfolding legalOperations any
-operations-bind ks [] bs ts bs′ ts′ t e = more-nothing (λ x. false) bs bs′ (same-bindings bs ts bs′ ts′ (unfold performAll in e)) (λ x. refl)
+operations-bind ks [] bs ts bs′ ts′ t e = more-nothing (λ x. false) bs bs′ (done-bindings bs bs′ ts ts′ (unfold performAll in e)) (λ x. refl)
 operations-bind ks (o ∷ os) bs ts bs′ ts′ t e =
     let r = performed-in-order o os bs ts bs′ ts′ e in
     let a = legalOperation ks o in
@@ -249,30 +246,34 @@ branch-valued b ts bs ts′ r legal e v =
     let all : map (λ (a : ℕ × Value). a .0) (r .values) ≡ keep (binds b) (countFrom variables 0) = rw v (rw n at l) in
     record { rising = all; exactly = rising-exactly b (r .values) (branch-iff b .0 legal) all }
 
-legal-branches : (st : Statement) → T (legalStatement st) → Each (λ (b : Branch). T (legalBranch b)) (st .branches)
-unfolding legalStatement
-legal-branches st t = all-at legalBranch (st .branches) (search (and-r, t) depth 4)
-
 not-done : (n : ℕ) → n ≡ 0 → (n ≡ 12) ⊎ ((n ≡ 16) ⊎ (n ≡ 17)) → ⊥
 not-done n z (inl e) = omega arith
 not-done n z (inr (inl e)) = omega arith
 not-done n z (inr (inr e)) = omega arith
 
--- the reply to a legal statement that ran done, whatever the tuples were: its values are those that the branch binds
-pub ran-valued : (ts : List Tuple) (st : Statement) (e : Executed) (p : ℕ) → T (legalStatement st) → (h : Runs ts st e) → (ranReply p st e) .outcome ≡ 0 → Valued (h .branch) (ranReply p st e)
-unfolding ranReply operations
-ran-valued ts st e p legal h z = go (e .result) (h .result) z refl
+-- Of the tuples that a statement ran on and its reply: the reply names "the first branch whose guard finds a tuple or is true", "Branch counts from 1", and where it is done its values are those that this branch binds
+pub record OwnReply (ts : List Tuple) (st : Statement) (r : Reply) : Type 0 where
+  pub index : ℕ
+  pub branch : Branch
+  pub chosen : Least (λ (b : Branch). Holds ts (b .guard)) (st .branches) index branch
+  pub number : r .branch ≡ suc index
+  pub valued : r .outcome ≡ 0 → Valued branch r
+
+-- so is every answer to a legal statement that ran, by the words on both
+pub answered-own : (p : ℕ) (st : Statement) (e : Executed) (ts after : List Tuple) (r : Reply) → T (legalStatement st) → Runs ts st e → Answered p st e ts after r → OwnReply ts st r
+answered-own p st e ts after r legal h a = record { index = h .index; branch = b; chosen = h .least; number = a .branch ∙ h .number; valued = go (e .result) (h .result) (a .ends) }
   where
     b : Branch
     b = h .branch
 
-    member : List·Memᴰ b (st .branches)
-    member = subst (λ (l : List Branch). List·Memᴰ b l) (sym (h .least .split)) (Memᴰ·append-right (h .least .front) (List·Memᴰ·head refl))
+    go : (x : Result) → x ≡ performAll (b .guard ∷ b .body) unbound ts → Ends x ts after r → r .outcome ≡ 0 → Valued b r
+    go (done bs ts′) q n z = branch-valued b ts bs ts′ r (legal-branches st legal b (least-in (h .least))) (unfold operations in sym q) (bound-only bs (r .values) (n .2))
+    go (failed k) q n z = absurd (not-done k (sym (n .1) ∙ z) (failure-number (b .guard ∷ b .body) unbound ts k (sym q)))
 
-    go : (r : Result) → r ≡ performAll (b .guard ∷ b .body) unbound ts → outcomeOf r ≡ 0 → e .result ≡ r → Valued b (ranReply p st e)
-    go (done bs ts′) q z w = branch-valued b ts bs ts′ (ranReply p st e) (legal-branches st legal b member) (unfold operations in sym q) (unfold ranReply valuesOf in rw w refl)
-    go (failed n) q z w = absurd (not-done n (unfold outcomeOf in z) (failure-number (b .guard ∷ b .body) unbound ts n (sym q)))
+-- the reply to a legal statement that runs, whatever the tuples are
+pub ran-valued : (ts : List Tuple) (st : Statement) (e : Executed) (p : ℕ) → T (legalStatement st) → attempt ts st ≡ some e → OwnReply ts st (ranReply p st e)
+ran-valued ts st e p legal q = answered-own p st e ts (tuplesAfter ts (e .result)) (ranReply p st e) legal (attempt-runs ts st e q) (answered-words p st e ts)
 
--- and they are as many
+-- as many as the variables that the branch binds
 pub valued-count : (b : Branch) (r : Reply) → Valued b r → length (r .values) ≡ length (keep (binds b) (countFrom variables 0))
 valued-count b r h = sym (length-map (r .values) (λ (a : ℕ × Value). a .0)) ∙ ap length (h .rising)
