@@ -41,7 +41,7 @@ part-position-end : tie.Need-part-position-end
 part-position-end c = omega arith
 
 position-requires : tie.Need-position-requires
-position-requires c κs = let s = start (c .before .before .before .before) in row (s .args .state .now) (s .args .i) (s .pre .0) (s .pre .1)
+position-requires c κs = let s = start (c .before .before .before .before) in omega (arith, row (s .args .state .now) (s .args .i) (s .pre .0) (s .pre .1))
 
 leave-requires : tie.Need-leave-requires
 leave-requires c κs = let s = start (copy (c .before)) in (s .pre .0, omega (arith, s .pre .1))
