@@ -1,1 +1,3 @@
 pub mod ReadLaws
+pub mod Printed
+pub mod PrintedLaws

@@ -1,12 +1,12 @@
 -- `cabinet::read_record` meets its contract. Assumes nothing.
 use mathlib.Core.Path.{sym}
-use Prim.Native.Nat.{_+_, _-_}
+use Prim.Native.Nat.{_+_, _-_, _≤_}
 use native.Mathlib.Omega.{arith}
 use mathlib.Core.List.{_++_}
-use lib.ListN.{drop, length-append, length-drop}
+use lib.ListN.{length, drop, length-append, length-drop}
 use lib.Seq.{length-take-le}
 use Rattle.basis.specs.Sizes.{bodyAt}
-use Rattle.cabinet.specs.ReadLaws.{counts-front, counts-mid}
+use Rattle.cabinet.specs.ReadLaws.{counts-front, counts-mid, within-head, within-body}
 use borrow.Author.Needs.{needs}
 use Rattle.cabinet.proofs.read_record.Statement.{statement}
 use Rattle.cabinet.proofs.read_record.Tie as tie
@@ -27,7 +27,10 @@ returns : tie.Need-returns
 returns c =
     let f = c .before .before .before in
     let s = f .before .before .before in
-    counts-front (f .read-full .result) (f .read-full .last .1 .0) (drop bodyAt (s .args .«record» .now)) (f .read-full .ensures .0)
+    let rest = drop bodyAt (s .args .«record» .now) in (
+      counts-front (f .read-full .result) (f .read-full .last .1 .0) rest (f .read-full .ensures .0),
+      within-head (f .read-full .result) (f .read-full .last .1 .0 ++ rest) (c .if1 .taken),
+    )
 
 word2-requires : tie.Need-word2-requires
 word2-requires c κs = search needs
@@ -63,7 +66,11 @@ returns-2 c =
     let f = w .before .before .before .before .before in
     let s = f .before .before .before in
     let now = f .read-full .last .1 .0 ++ drop bodyAt (s .args .«record» .now) in
-    counts-mid bodyAt (bodyAt + w .word2 .result - bodyAt) (b .read-full2 .result) now (b .read-full2 .last .1 .0) (simp (length-append, length-drop) (omega (arith, s .pre))) (b .read-full2 .ensures .0)
+    let part = b .read-full2 .last .1 .0 in
+    let long : bodyAt ≤ length now = simp (length-append, length-drop) (omega (arith, s .pre)) in (
+      counts-mid bodyAt (bodyAt + w .word2 .result - bodyAt) (b .read-full2 .result) now part long (b .read-full2 .ensures .0),
+      within-body (w .word2 .result) (b .read-full2 .result) now part long (w .word2 .ensures) (b .read-full2 .ensures .0) (b .read-full2 .kept .1 .0),
+    )
 
 pub read-record-spec : {M : Type 1} → statement M
 read-record-spec =

@@ -1,0 +1,30 @@
+-- What the program does with the bytes that it read as one record, as one definition of the buffers. Assumes nothing.
+use mathlib.Core.Bool.{Bool, true, false, not, cond}
+use mathlib.Core.List.{[]}
+use lib.ListN.{length}
+use lib.Dec.{eqb}
+use Rattle.basis.specs.Choice.{maybe}
+use Rattle.layout.specs.States.{decode}
+use Rattle.calls.specs.Calls.{Bytes, Lent, refusal, stepBytes, takeCall}
+use Rattle.text.specs.Lines.{linesOf, refusedLine}
+
+-- "prints a line per reply"; "Refusals 3 to 5 print `refused n`"
+unfoldable pub textOf : Lent → Bytes
+textOf l = maybe (refusal l) (linesOf ((stepBytes (decode (l .state)) (l .input)) .replies)) refusedLine
+
+-- "3, also for a cut last record, ends it"
+unfoldable pub goesOn : Lent → Bool
+goesOn l = maybe (refusal l) true (λ n. not (eqb n 3))
+
+-- the state buffer at exit, the text, and whether the stream goes on
+pub record Printed : Type 0 where
+  pub state : Bytes
+  pub text : Bytes
+  pub more : Bool
+
+abbrev pub printed : (state text : Bytes) → (more : Bool) → Printed
+printed state text more = record { state = state; text = text; more = more }
+
+-- the call for the bytes read; where there are none the input has ended, and nothing is printed
+unfoldable pub answered : Lent → Printed
+answered l = cond (eqb (length (l .input)) 0) (printed (l .state) [] false) (printed ((takeCall l) .state) (textOf l) (goesOn l))
