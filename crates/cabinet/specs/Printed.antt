@@ -1,11 +1,12 @@
 -- What the program does with the bytes that it read as one record, as one definition of the buffers. Assumes nothing.
+use mathlib.Core.Path.{_≡_}
 use mathlib.Core.Bool.{Bool, true, false, not, cond}
 use mathlib.Core.List.{[]}
 use lib.ListN.{length}
 use lib.Dec.{eqb}
 use Rattle.basis.specs.Choice.{maybe}
 use Rattle.layout.specs.States.{decode}
-use Rattle.calls.specs.Calls.{Bytes, Lent, refusal, stepBytes, takeCall}
+use Rattle.calls.specs.Calls.{Bytes, Lent, lent, refusal, stepBytes, takeCall}
 use Rattle.text.specs.Lines.{linesOf, refusedLine}
 
 -- "prints a line per reply"; "Refusals 3 to 5 print `refused n`"
@@ -28,3 +29,10 @@ printed state text more = record { state = state; text = text; more = more }
 -- the call for the bytes read; where there are none the input has ended, and nothing is printed
 unfoldable pub answered : Lent → Printed
 answered l = cond (eqb (length (l .input)) 0) (printed (l .state) [] false) (printed ((takeCall l) .state) (textOf l) (goesOn l))
+
+-- a text that answers the bytes read, where that leaves this state: on some state before, with some reply buffer
+pub record Answers (input state text : Bytes) : Type 0 where
+  pub before : Bytes
+  pub reply : Bytes
+  pub more : Bool
+  pub is : printed state text more ≡ answered (lent before input reply)

@@ -16,7 +16,7 @@ ghost use Rattle.calls.specs.Calls.{Lent, lent, takeCall};
 ghost use Rattle.text.specs.Written.{growth};
 ghost use Rattle.io.specs.Counts.{Counts};
 ghost use Rattle.cabinet.specs.ReadLaws.{sizeSaid};
-ghost use Rattle.cabinet.specs.Printed.{textOf, printed, answered};
+ghost use Rattle.cabinet.specs.Printed.{textOf, printed, answered, Answers};
 
 // The longest record: its head and the longest body.
 const RECORD: usize = words::BODY_AT + words::MOST_LENGTH;
@@ -88,6 +88,13 @@ fn answer(state: &mut [u8], record: &[u8], reply: &mut [u8], text: &mut [u8]) ->
     }
 }
 
+// Prints the text that answers the bytes read as a record, after which the state is this. Whether it was written.
+fn print(text: &[u8], record: &[u8], state: &[u8]) -> bool
+    requires { ⌜ Answers (now «record») (now state) (now text) ⌝ }
+{
+    io::write_all(STDOUT_FILENO, text)
+}
+
 // Takes one record from the stream and prints what answers it, where the turn before let the stream go on.
 fn take_one(
     before: Turn,
@@ -107,7 +114,7 @@ fn take_one(
     let size = read_record(record);
     let answered = answer(state, &record[..size], reply, text);
     let end = answered.end;
-    let written = io::write_all(STDOUT_FILENO, &text[..end]);
+    let written = print(&text[..end], &record[..size], state);
     Turn {
         size,
         end,

@@ -1,13 +1,40 @@
 -- `cabinet::take_one` meets its contract. Assumes nothing.
+use mathlib.Core.Path.{_≡_}
+use mathlib.Core.List.{List}
+use Prim.Native.Nat.{ℕ}
 use lib.ListN.{take}
 use lib.Dec.{T}
 use lib.Pow.{areBytes}
 use Rattle.basis.specs.NumberLaws.{bytes-of, bytes-take}
-use Rattle.calls.specs.Calls.{lent}
+use Rattle.calls.specs.Calls.{Lent, lent}
+use Rattle.cabinet.specs.Printed.{printed, answered}
 use Rattle.cabinet.specs.PrintedLaws.{turn-leaves}
 use borrow.Author.Needs.{needs}
 use Rattle.cabinet.proofs.take_one.Statement.{statement}
 use Rattle.cabinet.proofs.take_one.Tie as tie
+
+-- the bytes read are answered
+module _ (a : tie.After-answer) where
+  abbrev known : tie.After-slice-known5
+  known = a .before .before .before .before .before
+
+  abbrev read : tie.After-read-record
+  read = known .before .before
+
+  abbrev start : tie.Start
+  start = read .before .before .before .before .before .before
+
+  abbrev buffer : List ℕ
+  buffer = read .read-record .last .0
+
+  abbrev buffers : Lent
+  buffers = lent (start .args .state .now) (take (read .read-record .result) buffer) (start .args .reply .now)
+
+  abbrev text : List ℕ
+  text = take (a .answer .result .end) (a .answer .last .1 .1 .1 .0)
+
+  is-answered : printed (a .answer .last .0) text (a .answer .result .more) ≡ answered buffers
+  is-answered = a .answer .ensures .1
 
 read-record-requires : tie.Need-read-record-requires
 read-record-requires c κs = search needs
@@ -21,14 +48,23 @@ slice-aggregate-answer c = search needs
 answer-requires : tie.Need-answer-requires
 answer-requires c κs = search needs
 
-slice-reshare-prefix-write-all : tie.Need-slice-reshare-prefix-write-all
-slice-reshare-prefix-write-all c = search needs
+slice-reshare-prefix-print : tie.Need-slice-reshare-prefix-print
+slice-reshare-prefix-print c = search needs
 
-slice-aggregate-write-all : tie.Need-slice-aggregate-write-all
-slice-aggregate-write-all c = search needs
+slice-aggregate-print : tie.Need-slice-aggregate-print
+slice-aggregate-print c = search needs
 
-write-all-requires : tie.Need-write-all-requires
-write-all-requires c κs = search needs
+slice-reshare-prefix-print-2 : tie.Need-slice-reshare-prefix-print-2
+slice-reshare-prefix-print-2 c = search needs
+
+slice-aggregate-print-2 : tie.Need-slice-aggregate-print-2
+slice-aggregate-print-2 c = search needs
+
+print-requires : tie.Need-print-requires
+print-requires c κs =
+    let a = c .before .before .before .before .before .before .before .before .before in
+    let l = buffers a in
+    record { before = l .state; reply = l .reply; more = a .answer .result .more; is = is-answered a }
 
 same-length : tie.Need-same-length
 same-length c = search needs
@@ -44,17 +80,12 @@ same-length-4 c = search needs
 
 returns : tie.Need-returns
 returns c =
-    let a = c .before .before .before .before .before .before .before .before in
-    let k = a .before .before .before .before .before in
-    let r = k .before .before in
-    let s = r .before .before .before .before .before .before in
-    let n = r .read-record .result in
-    let now = r .read-record .last .0 in
-    let l = lent (s .args .state .now) (take n now) (s .args .reply .now) in
-    let bytes : T (areBytes now) = bytes-of now (λ i. k .slice-known5 .given i .fits) in
-    let e = a .answer .ensures .1 in
-    let left = turn-leaves l (a .answer .last .0) (take (a .answer .result .end) (a .answer .last .1 .1 .1 .0)) (a .answer .result .more) (s .pre .1 .0) (s .pre .1 .1 .1) (bytes-take n now bytes) e in
-    (r .read-record .ensures .1, (e, left))
+    let a = c .before .before .before .before .before .before .before .before .before .before in
+    let s = start a in
+    let bytes : T (areBytes (buffer a)) = bytes-of (buffer a) (λ i. known a .slice-known5 .given i .fits) in
+    let e = is-answered a in
+    let left = turn-leaves (buffers a) (a .answer .last .0) (text a) (a .answer .result .more) (s .pre .1 .0) (s .pre .1 .1 .1) (bytes-take (read a .read-record .result) (buffer a) bytes) e in
+    (read a .read-record .ensures .1, (e, left))
 
 pub take-one-spec : {M : Type 1} → statement M
 take-one-spec =
@@ -64,9 +95,11 @@ take-one-spec =
     slice-reshare-prefix-answer
     slice-aggregate-answer
     answer-requires
-    slice-reshare-prefix-write-all
-    slice-aggregate-write-all
-    write-all-requires
+    slice-reshare-prefix-print
+    slice-aggregate-print
+    slice-reshare-prefix-print-2
+    slice-aggregate-print-2
+    print-requires
     same-length
     same-length-2
     same-length-3
