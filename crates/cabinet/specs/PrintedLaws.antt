@@ -210,8 +210,10 @@ turn-leaves l state text more i r t e = (
   ap (λ (p : Printed). p .more) e ∙ answered-more l i r,
 )
 
--- "starts from the fresh state"
-pub fresh-leaves : (n : ℕ) (before state : Bytes) → length before ≡ stateSize → freshAnswer n state ≡ freshCall before → T (isState state)
-fresh-leaves n before state size e =
-    let made : state ≡ encode fresh = ap (λ (a : FreshAnswer). a .state) e ∙ fresh-made before size in
-    rw made (true-is (isState (encode fresh)) fresh-state)
+-- ---- "starts from the fresh state"
+
+pub fresh-leaves : (n : ℕ) (before state : Bytes) → length before ≡ stateSize → freshAnswer n state ≡ freshCall before → state ≡ encode fresh
+fresh-leaves n before state size e = ap (λ (a : FreshAnswer). a .state) e ∙ fresh-made before size
+
+pub fresh-begins : (state : Bytes) → state ≡ encode fresh → T (isState state)
+fresh-begins state e = rw e (true-is (isState (encode fresh)) fresh-state)

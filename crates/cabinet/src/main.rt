@@ -10,7 +10,9 @@ ghost use lib.Dec.{T};
 ghost use lib.Pow.{areBytes};
 ghost use Rattle.basis.specs.Choice.{isSome};
 ghost use Rattle.basis.specs.Sizes.{bodyAt, mostLength, replySize};
+ghost use Rattle.model.specs.Run.{fresh};
 ghost use Rattle.model.specs.Step.{recordOf};
+ghost use Rattle.layout.specs.States.{encode};
 ghost use Rattle.layout.specs.IsState.{isState};
 ghost use Rattle.calls.specs.Calls.{Lent, lent, takeCall};
 ghost use Rattle.text.specs.Written.{growth};
@@ -123,10 +125,10 @@ fn take_one(
     }
 }
 
-// Takes the records of the stream. It ends where the bytes read last are no record, or their text could not be written. A proved loop
-// has to end, so its turns are counted down, from a number that no run uses up.
+// Takes the records of the stream, from the fresh state on. It ends where the bytes read last are no record, or their text could not
+// be written. A proved loop has to end, so its turns are counted down, from a number that no run uses up.
 fn take_all(state: &mut [u8], record: &mut [u8], reply: &mut [u8], text: &mut [u8]) -> Ended
-    requires { ⌜ T (isState (now state)) ⌝ }
+    requires { ⌜ now state ≡ encode fresh ⌝ }
     requires { ⌜ (bodyAt + mostLength ≤ length (now «record»)) × (replySize ≤ length (now reply)) × (growth * replySize ≤ length (now text)) ⌝ }
     ensures { λ r. ⌜ T (isState (now (state .exit))) ⌝ }
     ensures { λ r. ⌜ (r .turns ≢ 0 → r .written ≡ true → isSome (recordOf (take (r .size) (now («record» .exit)))) ≡ false) ⌝ }

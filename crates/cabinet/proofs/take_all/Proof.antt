@@ -7,6 +7,7 @@ use lib.Dec.{T}
 use Rattle.basis.specs.Choice.{isSome}
 use Rattle.model.specs.Step.{recordOf}
 use Rattle.layout.specs.IsState.{isState}
+use Rattle.cabinet.specs.PrintedLaws.{fresh-begins}
 use borrow.Author.Needs.{needs}
 use Rattle.cabinet.proofs.take_all.Statement.{statement}
 use Rattle.cabinet.proofs.take_all.Tie as tie
@@ -22,7 +23,7 @@ abbrev μ-loop : tie.MeasureT-loop
 loop-holds : tie.Need-loop-holds Inv-loop μ-loop
 loop-holds c =
     let s = c .before .before .before .before in
-    (s .pre .0, refl, refl, refl, refl, λ e. absurd (true≢false e))
+    (fresh-begins (s .args .state .now) (s .pre .0), refl, refl, refl, refl, λ e. absurd (true≢false e))
 
 take-one-requires : tie.Need-take-one-requires Inv-loop μ-loop
 take-one-requires c κs =
