@@ -1,3 +1,4 @@
-pub mod ReadLaws
 pub mod Printed
+pub mod ReadLaws
 pub mod PrintedLaws
+pub mod PrintedCases

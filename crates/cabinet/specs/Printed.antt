@@ -1,13 +1,20 @@
 -- What the program does with the bytes that it read as one record, as one definition of the buffers. Assumes nothing.
 use mathlib.Core.Path.{_≡_}
+use Prim.Native.Nat.{ℕ, _+_}
 use mathlib.Core.Bool.{Bool, true, false, not, cond}
 use mathlib.Core.List.{[]}
 use lib.ListN.{length}
 use lib.Dec.{eqb}
 use Rattle.basis.specs.Choice.{maybe}
+use Rattle.basis.specs.Numbers.{numberAt}
+use Rattle.basis.specs.Sizes.{lengthAt, lengthWidth, bodyAt}
 use Rattle.layout.specs.States.{decode}
 use Rattle.calls.specs.Calls.{Bytes, Lent, lent, refusal, stepBytes, takeCall}
 use Rattle.text.specs.Lines.{linesOf, refusedLine}
+
+-- the size that the length of a record says, where its bytes stand at the front
+abbrev pub sizeSaid : Bytes → ℕ
+sizeSaid bytes = bodyAt + numberAt lengthAt lengthWidth bytes
 
 -- "prints a line per reply"; "Refusals 3 to 5 print `refused n`"
 unfoldable pub textOf : Lent → Bytes

@@ -1,4 +1,4 @@
--- A taken call leaves what `lines` asks of a reply buffer, and the number returned tells the text. Assumes nothing.
+-- A taken call leaves what `lines` asks of a reply buffer; the number returned tells the text, and whether the stream goes on; a state stays one. Assumes nothing.
 use mathlib.Core.Path.{_≡_, refl, sym, ap, subst, _∙_}
 use mathlib.Core.Logic.{_⊎_, inl, inr, _≢_}
 use Prim.Native.Nat.{ℕ, suc, _*_, _≤_, _<_}

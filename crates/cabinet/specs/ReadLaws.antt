@@ -9,6 +9,7 @@ use borrow.Rule.Slice.PartMut.{putMid, take-put}
 use Rattle.basis.specs.Numbers.{numberAt}
 use Rattle.basis.specs.Sizes.{lengthAt, lengthWidth, bodyAt}
 use Rattle.io.specs.Counts.{Counts}
+use Rattle.cabinet.specs.Printed.{sizeSaid}
 
 -- ---- bytes of the buffer
 
@@ -25,10 +26,6 @@ pub counts-mid : (a k n : ℕ) (l p : List ℕ) → a ≤ length l → n ≤ len
 counts-mid a k n l p h e = counts (a + n) (putMid a k l p) (simp length-append (omega (arith, length-take-le a l h)))
 
 -- ---- bytes of the record
-
--- the size that a record's length says
-abbrev pub sizeSaid : List ℕ → ℕ
-sizeSaid l = bodyAt + numberAt lengthAt lengthWidth l
 
 -- less than its head
 pub within-head : (n : ℕ) (l : List ℕ) → n < bodyAt → n ≤ sizeSaid l

@@ -17,8 +17,7 @@ ghost use Rattle.layout.specs.IsState.{isState};
 ghost use Rattle.calls.specs.Calls.{Lent, lent, takeCall};
 ghost use Rattle.text.specs.Written.{growth};
 ghost use Rattle.io.specs.Counts.{Counts};
-ghost use Rattle.cabinet.specs.ReadLaws.{sizeSaid};
-ghost use Rattle.cabinet.specs.Printed.{textOf, printed, answered, Answers};
+ghost use Rattle.cabinet.specs.Printed.{sizeSaid, textOf, printed, answered, Answers};
 
 // The longest record: its head and the longest body.
 const RECORD: usize = words::BODY_AT + words::MOST_LENGTH;
