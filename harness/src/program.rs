@@ -1,5 +1,6 @@
 //! Runs the program `cabinet`: ../target/bin/cabinet, or the file that CABINET names.
 
+use std::fs::File;
 use std::io::Write;
 use std::path::PathBuf;
 use std::process::{Command, Stdio};
@@ -60,4 +61,24 @@ pub fn printed(input: &[u8], pieces: &Pieces) -> String {
     assert!(output.status.code().is_some(), "cabinet was ended by a signal: {}", output.status);
     assert!(output.stderr.is_empty(), "{}", String::from_utf8_lossy(&output.stderr));
     String::from_utf8(output.stdout).unwrap_or_else(|_| panic!("cabinet printed what is no text"))
+}
+
+/// Whether the program ends by itself where its text cannot be written, though its input goes on.
+pub fn ends_where_nothing_can_be_written(input: &[u8]) -> bool {
+    let full = File::options().write(true).open("/dev/full");
+    let full = full.unwrap_or_else(|fault| panic!("/dev/full: {fault}"));
+    let mut child = Command::new(path())
+        .stdin(Stdio::piped())
+        .stdout(full)
+        .spawn()
+        .unwrap_or_else(|fault| panic!("{}: {fault}", path().display()));
+    let mut pipe = child.stdin.take();
+    assert!(pipe.as_mut().is_some_and(|pipe| pipe.write_all(input).is_ok()));
+    let ended = (0..1_000).any(|_| {
+        thread::sleep(Duration::from_millis(10));
+        matches!(child.try_wait(), Ok(Some(_)))
+    });
+    drop(pipe);
+    assert!(child.wait().is_ok());
+    ended
 }
