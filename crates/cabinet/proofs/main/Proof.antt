@@ -1,4 +1,5 @@
 -- `cabinet::main` meets its contract. Assumes nothing.
+use mathlib.Core.Path.{refl}
 use Prim.Native.Nat.{ℕ}
 use lib.ListN.{replicate, length-replicate}
 use Rattle.basis.specs.Sizes.{stateSize}
@@ -28,7 +29,8 @@ slice-aggregate-take-all-4 c = search needs
 take-all-requires : tie.Need-take-all-requires
 take-all-requires c κs =
     let f = c .before .before .before .before .before in
-    (fresh-leaves (f .replica-fresh .result) (replicate stateSize 0) (f .replica-fresh .last .0) (length-replicate {A = ℕ} stateSize 0) (f .replica-fresh .ensures), (search needs, search needs, search needs))
+    let began = fresh-leaves (f .replica-fresh .result) (replicate stateSize 0) (f .replica-fresh .last .0) (length-replicate {A = ℕ} stateSize 0) (f .replica-fresh .ensures) in
+    ((refl, refl, refl), (began, (search needs, search needs, search needs)))
 
 returns : tie.Need-returns
 returns c = search needs

@@ -1,5 +1,5 @@
 -- `cabinet::take_one` meets its contract. Assumes nothing.
-use mathlib.Core.Path.{_≡_}
+use mathlib.Core.Path.{_≡_, sym, _∙_}
 use mathlib.Core.List.{List}
 use Prim.Native.Nat.{ℕ}
 use lib.ListN.{take}
@@ -60,11 +60,15 @@ slice-reshare-prefix-print-2 c = search needs
 slice-aggregate-print-2 : tie.Need-slice-aggregate-print-2
 slice-aggregate-print-2 c = search needs
 
+add-print : tie.Need-add-print
+add-print c = search needs
+
 print-requires : tie.Need-print-requires
 print-requires c κs =
-    let a = c .before .before .before .before .before .before .before .before .before in
+    let a = c .before .before .before .before .before .before .before .before .before .before in
     let l = buffers a in
-    record { before = l .state; reply = l .reply; more = a .answer .result .more; is = is-answered a }
+    let s = start a in
+    record { before = l .state; reply = l .reply; is-state = s .pre .1 .0; room = s .pre .1 .1 .1; is = is-answered a }
 
 same-length : tie.Need-same-length
 same-length c = search needs
@@ -80,12 +84,16 @@ same-length-4 c = search needs
 
 returns : tie.Need-returns
 returns c =
-    let a = c .before .before .before .before .before .before .before .before .before .before in
+    let a = c .before .before .before .before .before .before .before .before .before .before .before in
     let s = start a in
     let bytes : T (areBytes (buffer a)) = bytes-of (buffer a) (λ i. known a .slice-known5 .given i .fits) in
+    let size = read a .read-record .result in
     let e = is-answered a in
-    let left = turn-leaves (buffers a) (a .answer .last .0) (text a) (a .answer .result .more) (s .pre .1 .0) (s .pre .1 .1 .1) (bytes-take (read a .read-record .result) (buffer a) bytes) e in
-    (read a .read-record .ensures .1, (e, left))
+    let left = turn-leaves (buffers a) (a .answer .last .0) (text a) (a .answer .result .more) (s .pre .1 .0) (s .pre .1 .1 .1) (bytes-take size (buffer a) bytes) e in
+    let p = c .print .ensures in
+    let size-is : c .print .result .size ≡ size = p .1 .0 ∙ sym (read a .read-record .ensures .0 .1) in
+    let end-is : c .print .result .end ≡ a .answer .result .end = p .1 .1 ∙ sym (a .answer .ensures .0 .1) in
+    (p .0 .0, rw (size-is, end-is, p .0 .1) (read a .read-record .ensures .1, (e, left)))
 
 pub take-one-spec : {M : Type 1} → statement M
 take-one-spec =
@@ -99,6 +107,7 @@ take-one-spec =
     slice-aggregate-print
     slice-reshare-prefix-print-2
     slice-aggregate-print-2
+    add-print
     print-requires
     same-length
     same-length-2
