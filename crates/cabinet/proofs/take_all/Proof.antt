@@ -36,7 +36,7 @@ take-one-requires c κs =
     let s = l .before .before .before .before .before in
     let i = l .loop .inv in
     let room = s .pre .1 .1 in
-    ((m .before .if1 .taken, m .if2 .taken, t .if3 .taken), (i .0, (omega arith, omega arith, omega arith)))
+    ((omega (arith, m .before .if1 .taken), m .if2 .taken, t .if3 .taken), (i .0, (omega arith, omega arith, omega arith)))
 
 loop-less : tie.Need-loop-less Inv-loop μ-loop
 loop-less c =
