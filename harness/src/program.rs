@@ -82,3 +82,12 @@ pub fn ends_where_nothing_can_be_written(input: &[u8]) -> bool {
     assert!(child.wait().is_ok());
     ended
 }
+
+/// What the program prints where its input cannot be read: a folder.
+pub fn printed_of_a_folder() -> String {
+    let folder = File::open(env!("CARGO_MANIFEST_DIR")).unwrap_or_else(|fault| panic!("{fault}"));
+    let output = Command::new(path()).stdin(folder).output();
+    let output = output.unwrap_or_else(|fault| panic!("{}: {fault}", path().display()));
+    assert!(output.status.code().is_some(), "cabinet was ended by a signal: {}", output.status);
+    String::from_utf8_lossy(&output.stdout).into_owned()
+}

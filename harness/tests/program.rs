@@ -1,7 +1,7 @@
 //! The lines that `cabinet` prints, against the paper's and those of the second implementation.
 
 use harness::hex::{hex, record};
-use harness::program::{ends_where_nothing_can_be_written, printed, Pieces};
+use harness::program::{ends_where_nothing_can_be_written, printed, printed_of_a_folder, Pieces};
 use reference::generate::rng::Rng;
 use reference::generate::Stream;
 use reference::lines;
@@ -29,6 +29,11 @@ fn empty_input_prints_nothing() {
 #[test]
 fn a_text_that_cannot_be_written_ends_it() {
     assert!(ends_where_nothing_can_be_written(&record("RV", 1, "02")));
+}
+
+#[test]
+fn an_input_that_cannot_be_read_prints_nothing() {
+    assert_eq!(printed_of_a_folder(), "");
 }
 
 #[test]
