@@ -17,20 +17,21 @@
  *    an empty body nothing can be begun. A pointer fill is never null, and is aligned as a size_t is.
  *  - Calls on one state or one body must not run at once. Calls on different ones may.
  *  - A call needs at most REPLICA_STACK_BYTES bytes of stack.
+ *  - The floating-point mode (MXCSR) may be any, also that of a program linked with -ffast-math, and another for each
+ *    replica: no call reads it, sets it or raises an exception in it. Sums of metres are computed by integers, and round
+ *    to nearest. (harness/tests/metres.rs runs calls in every mode; harness/tests/instructions.rs looks through the
+ *    archive for an instruction that computes with floats.)
  *
  * Conditions of use. The compiler sees to the first alone; no call can notice that another is broken:
  *  - x86-64 with the System V calling convention, which is not that of Windows, and with pointers of 8 bytes. (That a
  *    file is compiled with -mabi=ms, the header cannot see.)
- *  - SSE is on, and whatever interrupts a call keeps the xmm registers and MXCSR for it.
+ *  - SSE is on, and whatever interrupts a call keeps the xmm registers for it.
  *  - The stack pointer is aligned to 16 bytes at each call, as that convention asks. A start-up file or a task switch
  *    of your own has to see to it.
  *  - The 128 bytes below the stack pointer (the red zone) belong to the call while it runs: no interrupt may share the
  *    stack. On Linux the kernel leaves them alone; on bare metal give interrupts a stack of their own.
  *  - memcpy, memmove and memset are yours, of a C library or written by you, and do what C says. The stack is measured
  *    with those of glibc; what yours need beyond theirs comes on top.
- *  - The floating-point mode is the one that a process starts with (MXCSR 0x1F80): rounding to nearest, denormals
- *    kept, no exception unmasked. Sums of metres use it, and in another mode replicas come to differ. A program that
- *    was linked with -ffast-math has another from its start: set it back before the call.
  */
 #ifndef REPLICA_H
 #define REPLICA_H

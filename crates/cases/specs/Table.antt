@@ -458,6 +458,23 @@ table =
         spaces = record { number = 0; access = shared } ∷ [];
       };
     }
+    -- rule 4: metres 00800001 minus 00800000 is 00000001; 3FFFFFFF plus 33800000 carries to 40000000; 4C000000 minus 3FFFFFFF is 4BFFFFFF, minus 3F7FFFFF still 4C000000
+    ∷ record {
+      stream = (82 ∷ 86 ∷ 0 ∷ 1 ∷ 0 ∷ 0 ∷ 0 ∷ 1 ∷ 2 ∷ [])
+          ∷ (65 ∷ 71 ∷ 0 ∷ 27 ∷ 0 ∷ 0 ∷ 0 ∷ 2 ∷ 2 ∷ 0 ∷ 5 ∷ 1 ∷ 0 ∷ 1 ∷ 5 ∷ 0 ∷ 3 ∷ 0 ∷ 2 ∷ 0 ∷ 128 ∷ 0 ∷ 1 ∷ 0 ∷ 2 ∷ 63 ∷ 255 ∷ 255 ∷ 255 ∷ 0 ∷ 2 ∷ 76 ∷ 0 ∷ 0 ∷ 0 ∷ [])
+          ∷ (65 ∷ 71 ∷ 0 ∷ 48 ∷ 0 ∷ 0 ∷ 0 ∷ 3 ∷ 2 ∷ 0 ∷ 5 ∷ 1 ∷ 1 ∷ 0 ∷ 3 ∷ 1 ∷ 2 ∷ 0 ∷ 1 ∷ 2 ∷ 1 ∷ 1 ∷ 2 ∷ 2 ∷ 1 ∷ 5 ∷ 0 ∷ 4 ∷ 4 ∷ 0 ∷ 2 ∷ 0 ∷ 128 ∷ 0 ∷ 0 ∷ 3 ∷ 1 ∷ 2 ∷ 51 ∷ 128 ∷ 0 ∷ 0 ∷ 4 ∷ 2 ∷ 2 ∷ 63 ∷ 255 ∷ 255 ∷ 255 ∷ 4 ∷ 2 ∷ 2 ∷ 63 ∷ 127 ∷ 255 ∷ 255 ∷ [])
+          ∷ [];
+      shows = record {
+        answers = replies (82 ∷ 80 ∷ 0 ∷ 0 ∷ 0 ∷ 1 ∷ 2 ∷ 0 ∷ 0 ∷ 0 ∷ 0 ∷ 1 ∷ 0 ∷ 0 ∷ 0 ∷ 0 ∷ 0 ∷ 1 ∷ [])
+            ∷ replies (82 ∷ 80 ∷ 0 ∷ 0 ∷ 0 ∷ 2 ∷ 2 ∷ 0 ∷ 5 ∷ 0 ∷ 1 ∷ 0 ∷ [])
+            ∷ replies (82 ∷ 80 ∷ 0 ∷ 0 ∷ 0 ∷ 3 ∷ 2 ∷ 0 ∷ 5 ∷ 0 ∷ 1 ∷ 3 ∷ 0 ∷ 2 ∷ 0 ∷ 128 ∷ 0 ∷ 1 ∷ 1 ∷ 2 ∷ 63 ∷ 255 ∷ 255 ∷ 255 ∷ 2 ∷ 2 ∷ 76 ∷ 0 ∷ 0 ∷ 0 ∷ [])
+            ∷ [];
+        tupleCount = 1;
+        tuples = record { space = 0; values = value 2 1 ∷ value 2 1073741824 ∷ value 2 1275068415 ∷ value 2 1275068416 ∷ [] } ∷ [];
+        waiting = [];
+        spaces = record { number = 0; access = shared } ∷ [];
+      };
+    }
     -- rule 4: metres 7F7FFFFF plus 72FFFFFF is done and rounds to 7F7FFFFF; plus 73000000 it is 17
     ∷ record {
       stream = (82 ∷ 86 ∷ 0 ∷ 1 ∷ 0 ∷ 0 ∷ 0 ∷ 1 ∷ 2 ∷ [])

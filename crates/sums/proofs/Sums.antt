@@ -2,40 +2,36 @@
 use Prim.Native.Nat.{ℕ}
 use mathlib.Core.Path.{_≡_, refl, sym, ap, ap₂, _∙_, subst}
 use mathlib.Core.Logic.{_⊎_, inl, inr}
-use mathlib.Core.Bool.{Bool, true, false, not}
+use mathlib.Core.Bool.{Bool, true, false}
 use mathlib.Core.Option.{Option, none}
 use native.Mathlib.Omega.{arith}
 use denote.Enum.Declared.{tagOf}
 use lib.Dec.{T}
 use lib.IntN.{ℤ, _+ℤ_, _-ℤ_}
-use lib.Ieee.{Float, binary32, add, sub, fits, isNan, ofBits, toBits}
+use lib.Ieee.{Float, binary32, add, sub, fits, ofBits, toBits}
 use lib.Ieee.Bits.{ofBits-toBits}
-use lib.Ieee.Scale.{finite}
 use mir.Syntax.{w32}
 use mir.Val.{toZ, ofZ}
 use Rattle.model.specs.Value as Model
-use Rattle.model.specs.Value.{value, byKind, legalValue, exact, rounded, noSum, plus, minus, wholePlus, wholeMinus, metresPlus, metresMinus}
-use Rattle.model.specs.Metres.{add-no-nan, sub-no-nan}
+use Rattle.model.specs.Value.{value, metres, byKind, legalValue, exact, rounded, noSum, plus, minus, wholePlus, wholeMinus, metresPlus, metresMinus}
 use Rattle.values.specs.Meaning.{valueIs, answered}
 use Rattle.sums.specs.Meaning.{offRange, sumOf, Alike}
 use Rattle.values.specs.declared.Value.{Value}
 use Rattle.values.specs.declared.Value.the-variants.{Whole, Name, Metres}
 use Rattle.values.proofs.Value.{the-type}
 use Rattle.values.proofs.Twos.{again}
-use Rattle.values.proofs.Finite.{metres-finite}
 
--- an operation on the bits of two values of kind k: `g` on whole numbers, `f` on metres, which gives no NaN
+-- an operation on the bits of two values of kind k: `g` on whole numbers, `f` on metres
 pub record Table (operation : (k a b : ℕ) → Option Model.Value) (g : ℤ → ℤ → ℤ) (f : Float → Float → Float) : Type 0 where
   pub rows : (k a b : ℕ) → byKind k (λ a b. exact (g (toZ w32 a) (toZ w32 b))) noSum (λ a b. rounded (f (ofBits binary32 a) (ofBits binary32 b))) noSum a b ≡ operation k a b
-  pub defined : (x y : Float) → T (finite x) → T (finite y) → T (not (isNan (f x y)))
 
 pub plus-table : Table plus _+ℤ_ (add binary32)
 unfolding plus wholePlus metresPlus
-plus-table = record { rows = λ k a b. refl; defined = add-no-nan }
+plus-table = record { rows = λ k a b. refl }
 
 pub minus-table : Table minus _-ℤ_ (sub binary32)
 unfolding minus wholeMinus metresMinus
-minus-table = record { rows = λ k a b. refl; defined = sub-no-nan }
+minus-table = record { rows = λ k a b. refl }
 
 -- the variants stand in the order of their kinds
 tag-kind : (v : Value) → tagOf the-type v ≡ (valueIs v) .kind
@@ -69,11 +65,8 @@ module _ {operation : (k a b : ℕ) → Option Model.Value} {g : ℤ → ℤ →
   pub metres-alone : (x : Float) → a ≡ Metres x → (tagOf the-type b ≡ 0) ⊎ (tagOf the-type b ≡ 1) → Gives none
   metres-alone x d = alone 2 0 1 (ap (λ (v : Value). (valueIs v) .kind) d) (λ e. omega arith) (λ e. omega arith)
 
-  pub metres-defined : (x y : Float) → T (fits binary32 x) → T (fits binary32 y) → a ≡ Metres x → b ≡ Metres y → T (not (isNan (f x y)))
-  metres-defined x y h k d e =
-      t .defined x y
-      (metres-finite x h (subst (λ (v : Value). T (legalValue (valueIs v))) d (p .first)))
-      (metres-finite y k (subst (λ (v : Value). T (legalValue (valueIs v))) e (p .second)))
+  pub metres-legal : (x y : Float) → a ≡ Metres x → b ≡ Metres y → T (legalValue (value metres (toBits binary32 x))) × T (legalValue (value metres (toBits binary32 y)))
+  metres-legal x y d e = (subst (λ (v : Value). T (legalValue (valueIs v))) d (p .first), subst (λ (v : Value). T (legalValue (valueIs v))) e (p .second))
 
 -- ---- operands that were read from a kind and bits
 

@@ -1,11 +1,11 @@
 // Rule 4: sums and differences of values.
 ghost use mathlib.Core.Path.{_≡_};
-ghost use mathlib.Core.Bool.{not};
 ghost use lib.Dec.{T};
 ghost use lib.IntN.{_+ℤ_, _-ℤ_};
-ghost use lib.Ieee.{isNan};
+ghost use lib.Ieee as Ieee;
+ghost use lib.Ieee.{binary32, ofBits, toBits};
 ghost use Rattle.model.specs.Value as Model;
-ghost use Rattle.model.specs.Value.{value, legalValue, exact, rounded};
+ghost use Rattle.model.specs.Value.{value, metres, legalValue, exact, rounded};
 ghost use Rattle.values.specs.Meaning.{valueIs, answered};
 ghost use Rattle.sums.specs.Meaning.{offRange, sumIs, sumOf, Alike};
 use values::Read;
@@ -57,16 +57,31 @@ fn subtract_whole(a: i32, b: i32) -> Sum
     }
 }
 
-// Rule 4: a rounded sum or difference of metres, if it is finite.
-fn finite_metres(x: f32) -> Sum
-    requires { ⌜ T (not (isNan x)) ⌝ }
-    ensures { λ r. ⌜ sumIs r ≡ answered offRange (rounded x) ⌝ }
+// Rule 4: a rounded sum or difference of metres, by its bits, if it is finite.
+fn finite_metres(bits: u32) -> Sum
+    ensures { λ r. ⌜ sumIs r ≡ answered offRange (rounded (ofBits binary32 bits)) ⌝ }
 {
-    if f32::to_bits(x) % values::NEGATIVE_ZERO < values::INFINITE {
-        Sum::Is(Value::Metres(x))
+    if bits % metres::SIGN < metres::INFINITE {
+        Sum::Is(Value::Metres(f32::from_bits(bits)))
     } else {
         Sum::Refused
     }
+}
+
+// Rule 4: x + y, rounded once; 17 exactly where that is not finite.
+fn add_metres(x: f32, y: f32) -> Sum
+    requires { ⌜ T (legalValue (value metres (toBits binary32 x))) × T (legalValue (value metres (toBits binary32 y))) ⌝ }
+    ensures { λ r. ⌜ sumIs r ≡ answered offRange (rounded (Ieee.add binary32 x y)) ⌝ }
+{
+    finite_metres(metres::add(f32::to_bits(x), f32::to_bits(y)))
+}
+
+// Rule 4: x - y, rounded once; 17 exactly where that is not finite.
+fn subtract_metres(x: f32, y: f32) -> Sum
+    requires { ⌜ T (legalValue (value metres (toBits binary32 x))) × T (legalValue (value metres (toBits binary32 y))) ⌝ }
+    ensures { λ r. ⌜ sumIs r ≡ answered offRange (rounded (Ieee.sub binary32 x y)) ⌝ }
+{
+    finite_metres(metres::subtract(f32::to_bits(x), f32::to_bits(y)))
 }
 
 // Rule 4: a + b, of two legal values of one kind.
@@ -81,7 +96,7 @@ fn plus(a: Value, b: Value) -> Sum
         },
         Value::Name(_) => Sum::Refused,
         Value::Metres(x) => match b {
-            Value::Metres(y) => finite_metres(x + y),
+            Value::Metres(y) => add_metres(x, y),
             _ => Sum::Refused,
         },
     }
@@ -99,7 +114,7 @@ fn minus(a: Value, b: Value) -> Sum
         },
         Value::Name(_) => Sum::Refused,
         Value::Metres(x) => match b {
-            Value::Metres(y) => finite_metres(x - y),
+            Value::Metres(y) => subtract_metres(x, y),
             _ => Sum::Refused,
         },
     }

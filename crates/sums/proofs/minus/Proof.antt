@@ -3,7 +3,7 @@ use borrow.Author.Needs.{needs}
 use mathlib.Core.Path.{_∙_}
 use lib.Dec.{T}
 use lib.Ieee.{binary32, fits}
-use Rattle.sums.proofs.Sums.{minus-table, whole-row, metres-row, name-row, whole-alone, metres-alone, metres-defined}
+use Rattle.sums.proofs.Sums.{minus-table, whole-row, metres-row, name-row, whole-alone, metres-alone, metres-legal}
 use Rattle.sums.proofs.minus.Statement.{statement}
 use Rattle.sums.proofs.minus.Tie as tie
 
@@ -25,14 +25,12 @@ enum-known-a-2 c = search needs
 enum-known-b-2 : tie.Need-enum-known-b-2
 enum-known-b-2 c = search needs
 
-finite-metres-requires : tie.Need-finite-metres-requires
-finite-metres-requires c κs =
+subtract-metres-requires : tie.Need-subtract-metres-requires
+subtract-metres-requires c κs =
     let s = c .before .before .before .before .before .before in
     let a = c .before .before .before .before .a2 .given in
     let b = c .before .b2 .given in
-    let f : T (fits binary32 (a .0 .0)) = search needs in
-    let g : T (fits binary32 (b .0 .0)) = search needs in
-    metres-defined minus-table (s .args .a) (s .args .b) (s .pre) (a .0 .0) (b .0 .0) f g (a .1) (b .1)
+    metres-legal minus-table (s .args .a) (s .args .b) (s .pre) (a .0 .0) (b .0 .0) (a .1) (b .1)
 
 returns : tie.Need-returns
 returns c =
@@ -59,7 +57,7 @@ returns-4 c =
     let b = c .before .before .b2 .given in
     let f : T (fits binary32 (a .0 .0)) = search needs in
     let g : T (fits binary32 (b .0 .0)) = search needs in
-    c .finite-metres .ensures ∙ metres-row minus-table (s .args .a) (s .args .b) (s .pre) (a .0 .0) (b .0 .0) f g (a .1) (b .1)
+    c .subtract-metres .ensures ∙ metres-row minus-table (s .args .a) (s .args .b) (s .pre) (a .0 .0) (b .0 .0) f g (a .1) (b .1)
 
 returns-5 : tie.Need-returns-5
 returns-5 c =
@@ -77,7 +75,7 @@ minus-spec =
     enum-told
     enum-known-a-2
     enum-known-b-2
-    finite-metres-requires
+    subtract-metres-requires
     returns
     returns-2
     returns-3
