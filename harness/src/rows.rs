@@ -55,6 +55,43 @@ fn near_empty() -> Vec<Row> {
     ]
 }
 
+/// Takes metres and puts sums and differences: of near values, of far ones, and of some that cancel.
+fn sums() -> Vec<Row> {
+    let held = |values: &[u32]| {
+        let values = values.iter().map(|bits| metres(*bits)).collect();
+        Run { tuples: vec![Tuple { space: 0, values }], ..states::near_empty() }
+    };
+    let takes = |count| {
+        let fields = (0..count).map(|variable| Field::Bind { kind: 2, variable }).collect();
+        operation(IN, &[0], fields)
+    };
+    let plus = |variable, bits| Field::Plus { variable, value: metres(bits) };
+    let minus = |variable, bits| Field::Minus { variable, value: metres(bits) };
+    let six = held(&[0x3F80_0000, 0x4049_0FDB, 0x3DCC_CCCD, 0x4B7F_FFFF, 0xC2C8_0000, 0x7F7F_FFFF]);
+    let first = vec![
+        plus(0, 0x3380_0001),
+        minus(1, 0x4049_0FDA),
+        plus(2, 0x3F80_0000),
+        plus(3, 0x3F00_0000),
+        plus(4, 0x42C7_FFFF),
+        minus(5, 0x7F00_0000),
+    ];
+    let second = vec![
+        minus(0, 0x4040_0000),
+        plus(1, 0x2F00_0000),
+        minus(2, 0x4F12_3456),
+        minus(3, 0x4B00_0000),
+        minus(4, 0x3DCC_CCCD),
+        plus(5, 0x72FF_FFFF),
+    ];
+    let puts = |fields| operation(OUT, &[0], fields);
+    let one = vec![puts(vec![plus(0, 0x3DCC_CCCD)])];
+    vec![
+        row("a sum of metres", &[held(&[0x4049_0FDB])], vec![branch(takes(1), one)]),
+        row("12 sums of metres", &[six], vec![branch(takes(6), vec![puts(first), puts(second)])]),
+    ]
+}
+
 fn many_tuples() -> Vec<Row> {
     let regular = states::regular();
     let random: Vec<Run> = (1..=64).map(states::random).collect();
@@ -119,7 +156,7 @@ fn many_spaces() -> Vec<Row> {
 
 /// Records that are taken.
 pub fn taken() -> Vec<Row> {
-    let rows = [near_empty(), many_tuples(), many_guards(), moves_and_wakes(), many_spaces()];
+    let rows = [near_empty(), sums(), many_tuples(), many_guards(), moves_and_wakes(), many_spaces()];
     rows.into_iter().flatten().collect()
 }
 

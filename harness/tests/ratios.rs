@@ -139,6 +139,35 @@ fn rows_of_32_spaces() {
     assert!(states::many_names().waiting.iter().all(|entry| distinct(entry.statement.spaces()) == 12));
 }
 
+/// What the tuples of a state are, by the bits of their values.
+fn bits(state: &[u8]) -> Vec<Vec<u32>> {
+    let entries = state[192..].chunks(32).take(usize::from(state[13]));
+    let values = |entry: &[u8]| entry[2..].chunks(5).take(usize::from(entry[1])).map(word).collect();
+    entries.map(values).collect()
+}
+
+/// The bits of a metres value.
+fn word(value: &[u8]) -> u32 {
+    assert_eq!(value[0], 2);
+    value[1..].iter().fold(0, |bits, byte| bits << 8 | u32::from(*byte))
+}
+
+/// They are done, and put as many sums as their names say.
+#[test]
+fn rows_of_metres() {
+    let rows = rows::taken();
+    let left = |name: &str| {
+        let row = rows.iter().find(|row| row.name == name)?;
+        let (mut state, mut reply) = (row.states[0].clone(), vec![0; row.reply_length]);
+        (LIBRARY.take)(&mut state, &row.record, &mut reply);
+        Some((reply[9], bits(&state)))
+    };
+    assert_eq!(left("a sum of metres"), Some((0, vec![vec![0x404F_7641]])));
+    let first = vec![0x3F80_0001, 0x3480_0000, 0x3F8C_CCCD, 0x4B80_0000, 0xB700_0000, 0x7EFF_FFFE];
+    let second = vec![0xC000_0000, 0x4049_0FDB, 0xCF12_3456, 0x4AFF_FFFE, 0xC2C8_3333, 0x7F7F_FFFF];
+    assert_eq!(left("12 sums of metres"), Some((0, vec![first, second])));
+}
+
 /// The longest call known: each statement is tried until it is woken, the youngest first and the oldest last.
 #[test]
 fn the_row_that_wakes_from_the_youngest() {
