@@ -6,6 +6,8 @@ pub mod hex;
 pub mod lent;
 pub mod library;
 pub mod measured;
+pub mod metres;
+pub mod modes;
 pub mod program;
 pub mod ratios;
 pub mod replica;
