@@ -1,4 +1,5 @@
-//! Links `libreplica.a` of `../target/staticlib`, or of the folder that REPLICA_DIR names.
+//! Links `libreplica.a` of `../target/staticlib`, or of the folder that REPLICA_DIR names. Code finds its path by
+//! `env!("REPLICA_ARCHIVE")`.
 
 use std::path::PathBuf;
 
@@ -8,8 +9,10 @@ fn main() {
         Some(folder) => PathBuf::from(folder),
         None => here.join("../target/staticlib"),
     };
+    let archive = folder.join("libreplica.a");
     println!("cargo:rerun-if-env-changed=REPLICA_DIR");
-    println!("cargo:rerun-if-changed={}", folder.join("libreplica.a").display());
+    println!("cargo:rerun-if-changed={}", archive.display());
+    println!("cargo:rustc-env=REPLICA_ARCHIVE={}", archive.display());
     println!("cargo:rustc-link-search=native={}", folder.display());
     println!("cargo:rustc-link-lib=static=replica");
 }
