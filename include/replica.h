@@ -19,8 +19,9 @@
  *  - A call needs at most REPLICA_STACK_BYTES bytes of stack.
  *  - The floating-point mode (MXCSR) may be any, also that of a program linked with -ffast-math, and another for each
  *    replica: no call reads it, sets it or raises an exception in it. Sums of metres are computed by integers, and round
- *    to nearest. (harness/tests/metres.rs runs calls in every mode; harness/tests/instructions.rs looks through the
- *    archive for an instruction that computes with floats.)
+ *    to nearest. (Tried: harness/tests/metres.rs makes calls in each rounding, with denormals flushed or taken as zero,
+ *    with exceptions unmasked, and all at once; harness/tests/instructions.rs finds no instruction in the archive that
+ *    computes with floats.)
  *
  * Conditions of use. The compiler sees to the first alone; no call can notice that another is broken:
  *  - x86-64 with the System V calling convention, which is not that of Windows, and with pointers of 8 bytes. (That a

@@ -19,6 +19,8 @@ const WHOLE_NUMBERS: &str = "paddb paddw paddd paddq psubb psubw psubd psubq pmu
 const VECTORS: [&str; 5] = ["%xmm", "%ymm", "%zmm", "%tmm", "%k"];
 /// Registers of x87 and MMX, which are the same ones.
 const X87: [&str; 2] = ["%st", "%mm"];
+/// A conversion from memory to a general register names no vector register: all of them are refused by their name.
+const CONVERSIONS: &str = "cvt";
 /// What reads or sets the mode, beside instructions of x87, which all begin with f; none else does.
 const MODE: [&str; 7] = ["ldmxcsr", "stmxcsr", "vldmxcsr", "vstmxcsr", "emms", "xsave", "xrstor"];
 const PREFIXES: [&str; 13] =
@@ -48,7 +50,9 @@ fn is_allowed(instruction: &str) -> bool {
         let plain = name.strip_prefix('v').unwrap_or(name);
         return ALLOWED.iter().any(|list| list.split(' ').any(|allowed| allowed == plain));
     }
-    !names(&X87) && !name.starts_with(['f', '(']) && !MODE.iter().any(|mode| name.starts_with(mode))
+    let plain = name.strip_prefix('v').unwrap_or(name);
+    let hangs = plain.starts_with(CONVERSIONS) || name.starts_with(['f', '(', '.']);
+    !hangs && !names(&X87) && !MODE.iter().any(|mode| name.starts_with(mode))
 }
 
 /// Looks at all that objdump disassembles.
@@ -140,6 +144,14 @@ fn what_hangs_on_a_mode_is_refused() {
         "cvttss2si %xmm0, %rax",
         "cvtss2sd %xmm1, %xmm0",
         "cvtpi2ps (%rax), %xmm0",
+        "cvttss2si (%rax), %eax",
+        "cvtss2si (%rax), %rax",
+        "cvtsd2si 8(%rsp), %ecx",
+        "cs cvtss2si (%rax), %eax",
+        "vcvtss2si (%rax), %eax",
+        "vcvttsd2si (%rax), %rax",
+        "vcvtss2usi (%rax), %eax",
+        "vcvttsd2usi (%rax), %rax",
         "vcvtdq2ps %ymm1, %ymm0",
     ];
     assert_eq!(assembled("mode", &lines).refused.len(), lines.len());

@@ -1,4 +1,5 @@
-//! Sums and differences of metres: as the processor adds in its default mode, and the same bytes in every mode.
+//! Sums and differences of metres: as the processor adds in its default mode, and the same bytes in each rounding, with
+//! denormals flushed or taken as zero, with exceptions unmasked, and all at once.
 
 use harness::caller::Caller;
 use harness::library::{replica_take, Calls, LIBRARY, REFERENCE};
@@ -36,7 +37,7 @@ fn all_pairs_of_hard_values() {
 #[test]
 fn random_pairs() {
     let mut adder = Adder::new(DEFAULT, replica_take);
-    for sum in sums(1, RANDOM) {
+    for sum in sums(1, RANDOM).into_iter().skip(2 * hard_pairs().len()) {
         assert_eq!(adder.expect(sum, sum.expected()), Ok(()));
     }
 }

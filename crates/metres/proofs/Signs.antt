@@ -1,5 +1,5 @@
 -- The bits of a sum, by the signs and sizes of its operands: a law for each case of `onto` and `subtract`. Assumes nothing.
-use Prim.Native.Nat.{ℕ, _+_, _-_, _/_, _%_, _<_, _≤_}
+use Prim.Native.Nat.{ℕ, _+_, _-_, _/_, _%_, _^_, _<_, _≤_}
 use mathlib.Core.Path.{_≡_, refl, sym, ap, ap₂, _∙_}
 use mathlib.Core.Bool.{Bool, true, false, not}
 use native.Mathlib.Nat.{le-of-eq}
@@ -12,7 +12,7 @@ use Rattle.rounding.specs.PartLaws.{magnitude-lt}
 use Rattle.rounding.specs.Rounding.{zero-bits}
 use Rattle.rounding.specs.Signed.{signBit, IsSigned, bits-signed, add-like, add-more, neg-signed, unsigned, whole-of, not-zero}
 
-module _ (a b : ℕ) (wa : a < 0x100000000) (wb : b < 0x100000000) (nonzero : a ≡ sign → ⊥) where
+module _ (a b : ℕ) (wa : a < 2 ^ 32) (wb : b < 2 ^ 32) (nonzero : a ≡ sign → ⊥) where
   abbrev A : ℕ
   A = magnitude (a % sign)
 
@@ -77,5 +77,5 @@ turned a b c e f = ap (λ (z : ℤ). scaled a +ℤ z) (scaled-turned b c e f ∙
 pub sign-set : (a b : ℕ) → b < sign → scaled a +ℤ scaled (b + sign) ≡ scaled a -ℤ scaled b
 sign-set a b h = turned a b (b + sign) (omega arith) (le-leb sign (b + sign) (omega arith) ∙ ap not (sym (lt-leb sign b h)))
 
-pub sign-cleared : (a b : ℕ) → sign ≤ b → b < 0x100000000 → scaled a +ℤ scaled (b - sign) ≡ scaled a -ℤ scaled b
+pub sign-cleared : (a b : ℕ) → sign ≤ b → b < 2 ^ 32 → scaled a +ℤ scaled (b - sign) ≡ scaled a -ℤ scaled b
 sign-cleared a b h w = turned a b (b - sign) (omega arith) (lt-leb sign (b - sign) (omega arith) ∙ ap not (sym (le-leb sign b h)))

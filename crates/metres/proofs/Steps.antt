@@ -10,7 +10,7 @@ use lib.Pow.{pow-add, pow-pos, pow-mono, shl-lt}
 use lib.Ieee.Fits.{nearest-le}
 use lib.Ieee.Nearest.{closest}
 use Rattle.rounding.specs.Parts.{infinite, lead, full, place, digits, magnitude, nearestBits}
-use Rattle.rounding.specs.PartLaws.{parts, place-lt, leading, aligned, aligned-lt, aligned-above, exact-plus, exact-minus, quarter, magnitude-mono}
+use Rattle.rounding.specs.PartLaws.{far, parts, place-lt, leading, aligned, aligned-lt, aligned-above, exact-plus, exact-minus, quarter, magnitude-mono}
 use Rattle.rounding.specs.Closest.{Told, told}
 use Rattle.rounding.specs.Rounding.{pow-lt-back, nearest-of, unmoved}
 
@@ -74,7 +74,7 @@ moved n place up drop l a u b d r p o =
     kept (inl e) = inl (omega arith)
     kept (inr e) = inr (subst (λ (x : ℕ). lead * 2 ^ x ≤ n * 2 ^ up) (sym (e .0)) (e .1))
 
-raised : (n place : ℕ) → n < 2 ^ 51 → place < 254 → (0 < n) ⊎ (place ≡ 0) → (0 < leadingZeros 64 n) × Step n place (leadingZeros 64 n - 1) (max 39 (leadingZeros 64 n - 1 - place))
+raised : (n place : ℕ) → n < 2 ^ 50 → place < 254 → (0 < n) ⊎ (place ≡ 0) → (0 < leadingZeros 64 n) × Step n place (leadingZeros 64 n - 1) (max 39 (leadingZeros 64 n - 1 - place))
 raised zero place l p (inl h) = absurd (omega arith)
 raised zero place l p (inr e) =
     let z = leading-of-zero 64 in
@@ -85,7 +85,7 @@ raised (suc n) place l p o =
   where
     go : (z j : ℕ) → z + suc j ≡ 64 → 2 ^ j ≤ suc n → suc n < 2 ^ suc j → (0 < z) × Step (suc n) place (z - 1) (max 39 (z - 1 - place))
     go z j e h u =
-        let few : j < 51 = pow-lt-back j 51 (lt-of-le-of-lt h l) in
+        let few : j < 50 = pow-lt-back j 50 (lt-of-le-of-lt h l) in
         let up = z - 1 in
         let all : suc j + up ≡ 63 = omega arith in
         let high : j + up ≡ 62 = omega arith in
@@ -101,26 +101,26 @@ raised (suc n) place l p o =
             by Ordering·eq b = inl (omega arith)
             by Ordering·gt b = inl (omega arith)
 
-pub some-zeros : (n : ℕ) → n < 2 ^ 51 → 0 < leadingZeros 64 n
+pub some-zeros : (n : ℕ) → n < 2 ^ 50 → 0 < leadingZeros 64 n
 some-zeros n l = raised n 0 l (omega arith) (inr refl) .0
 
-pub step : (n place drop : ℕ) → n < 2 ^ 51 → place < 254 → (0 < n) ⊎ (place ≡ 0) → drop ≡ max 39 (leadingZeros 64 n - 1 - place) → Step n place (leadingZeros 64 n - 1) drop
+pub step : (n place drop : ℕ) → n < 2 ^ 50 → place < 254 → (0 < n) ⊎ (place ≡ 0) → drop ≡ max 39 (leadingZeros 64 n - 1 - place) → Step n place (leadingZeros 64 n - 1) drop
 step n place drop l p o e = subst (Step n place (leadingZeros 64 n - 1)) (sym e) (raised n place l p o .1)
 
 -- ---- two values without their signs, the digits of the larger one moved to the place of the smaller
 
--- near: `low` and `digits` are those of lo, x the digits of hi in its place
+-- near: `low` and d are the place and the digits of lo, x is the digits of hi in that place
 pub record Near (hi lo : ℕ) (minus : Bool) (low d x : ℕ) : Type 0 where
-  pub few : x < 2 ^ 50
+  pub few : x < 2 ^ 49
   pub fewer : d < 2 ^ 24
   pub above : minus ≡ true → d < x
-  pub joined : cond minus (x - d) (x + d) < 2 ^ 51
+  pub joined : cond minus (x - d) (x + d) < 2 ^ 50
   pub lowest : low < 254
   pub some : (0 < cond minus (x - d) (x + d)) ⊎ (low ≡ 0)
   pub exact : cond minus (x - d) (x + d) * 2 ^ low ≡ cond minus (magnitude hi - magnitude lo) (magnitude hi + magnitude lo)
 
 module _ (hi lo : ℕ) (minus : Bool) (h : lo ≤ hi) (f : hi < infinite) (n : minus ≡ true → lo < hi) where
-  at-places : place hi - place lo < 26 → Near hi lo minus (place lo) (digits lo) (digits hi * 2 ^ (place hi - place lo) % 18446744073709551616)
+  at-places : place hi - place lo < far → Near hi lo minus (place lo) (digits lo) (digits hi * 2 ^ (place hi - place lo) % 18446744073709551616)
   at-places a =
       let x = aligned hi lo in
       let few : x < 2 ^ 49 = aligned-lt hi lo 25 (omega arith) in
@@ -138,15 +138,15 @@ module _ (hi lo : ℕ) (minus : Bool) (h : lo ≤ hi) (f : hi < infinite) (n : m
           some (inl z) = inr z
           some (inr l) = inl (omega arith)
 
-  pub near : (low high d e : ℕ) → low ≡ place lo → high ≡ place hi → d ≡ digits lo → e ≡ digits hi → high - low < 26 → Near hi lo minus low d (e * 2 ^ (high - low) % 18446744073709551616)
+  pub near : (low high d e : ℕ) → low ≡ place lo → high ≡ place hi → d ≡ digits lo → e ≡ digits hi → high - low < far → Near hi lo minus low d (e * 2 ^ (high - low) % 18446744073709551616)
   near low high d e p q r s a = rw (p, q, r, s) (at-places (rw (sym p, sym q) a))
 
   -- far: hi stays
-  pub stays : (low high : ℕ) → low ≡ place lo → high ≡ place hi → 26 ≤ high - low → hi ≡ nearestBits (cond minus (magnitude hi - magnitude lo) (magnitude hi + magnitude lo))
+  pub stays : (low high : ℕ) → low ≡ place lo → high ≡ place hi → far ≤ high - low → hi ≡ nearestBits (cond minus (magnitude hi - magnitude lo) (magnitude hi + magnitude lo))
   unfolding magnitude
   stays low high p q a = go minus
     where
-      b : 26 ≤ place hi - place lo
+      b : far ≤ place hi - place lo
       b = rw (sym p, sym q) a
 
       at : (w : ℕ) → 4 * w < 4 * magnitude hi + 2 ^ place hi → 4 * magnitude hi < 4 * w + 2 ^ place hi → hi ≡ nearestBits w

@@ -2,7 +2,7 @@
 ghost use mathlib.Core.Path.{_≡_};
 ghost use mathlib.Core.Logic.{_⊎_};
 ghost use mathlib.Core.Bool.{true, cond};
-ghost use Prim.Native.Nat.{_+_, _-_, _*_, _%_, _^_, _<_, _≤_, max};
+ghost use Prim.Native.Nat.{_+_, _-_, _*_, _%_, _^_, _<_, _≤_, min, max};
 ghost use lib.IntN.{_+ℤ_};
 ghost use lib.Ieee.{binary32, ofBits, toBits};
 ghost use lib.Ieee as Ieee;
@@ -22,7 +22,7 @@ pub const INFINITE: u32 = 0x7f80_0000;
 // The leading one of 24 digits, and the weight of the exponent.
 const LEAD: u32 = 0x80_0000;
 
-// So many places apart the smaller of two values does not move the larger.
+// From so many places apart on, the smaller of two values does not move the larger.
 const FAR: u32 = 26;
 
 // Digits past the 24 that are kept, of 63.
@@ -68,9 +68,16 @@ fn dropped(up: u32, place: u32) -> u32
     }
 }
 
+// What is too large has an infinity's bits.
+fn capped(bits: u32) -> u32
+    ensures { λ r. ⌜ r ≡ min bits infinite ⌝ }
+{
+    if bits < INFINITE { bits } else { INFINITE }
+}
+
 // The bits of the value nearest to n * 2 ^ place. n is moved up to 63 digits; so many are dropped that 24 are kept, or fewer at the lowest place.
 fn rounded(n: u64, place: u32) -> u32
-    requires { ⌜ n < 2 ^ 51 ⌝ }
+    requires { ⌜ n < 2 ^ 50 ⌝ }
     requires { ⌜ place < 254 ⌝ }
     requires { ⌜ (0 < n) ⊎ (place ≡ 0) ⌝ }
     ensures { λ r. ⌜ r ≡ nearestBits (n * 2 ^ place) ⌝ }
@@ -78,12 +85,12 @@ fn rounded(n: u64, place: u32) -> u32
     let up = u64::leading_zeros(n) - 1;
     let drop = dropped(up, place);
     let bits = (place + drop - up) * LEAD + nearest(n << up, drop) as u32;
-    if bits < INFINITE { bits } else { INFINITE }
+    capped(bits)
 }
 
 // x - y where `minus` is set, else x + y.
 fn joined(x: u64, y: u64, minus: bool) -> u64
-    requires { ⌜ x < 2 ^ 50 ⌝ }
+    requires { ⌜ x < 2 ^ 49 ⌝ }
     requires { ⌜ y < 2 ^ 24 ⌝ }
     requires { ⌜ (minus ≡ true → y < x) ⌝ }
     ensures { λ r. ⌜ r ≡ cond minus (x - y) (x + y) ⌝ }
@@ -107,7 +114,7 @@ fn combined(hi: u32, lo: u32, minus: bool) -> u32
     }
 }
 
-// a + b, of which a is no smaller in size: the sum has its sign.
+// a + b, of which a is no smaller in size: what is not nothing has a's sign.
 fn onto(a: u32, b: u32) -> u32
     requires { ⌜ b % sign ≤ a % sign ⌝ }
     requires { ⌜ a % sign < infinite ⌝ }

@@ -3,7 +3,7 @@
 use Prim.Native.Nat.{ℕ, zero, suc, _+_, _-_, _*_, _/_, _%_, _^_, _<_, _≤_, min, compare, Ordering, Ordering·lt, Ordering·eq, Ordering·gt}
 use mathlib.Core.Path.{_≡_, refl, sym, ap, ap₂, _∙_, subst}
 use mathlib.Core.Logic.{_⊎_, inl, inr}
-use mathlib.Core.Bool.{Bool, true, false, not, cond, _&&_, Bool·beq}
+use mathlib.Core.Bool.{Bool, true, false, not, cond, _&&_, and-true, and-false, Bool·beq}
 use native.Mathlib.Nat.{le-trans, le-of-eq, le-of-lt, lt-of-le-of-lt, mul-assoc, mul-pos, mul-sub, mul-div-cancel, mul-lt-mul-of-pos-right, lt-of-mul-lt-mul-right, le-of-mul-le-mul-right, mul-le-mul-right, add-assoc, pow-suc, eq-or-lt-of-le}
 use native.Mathlib.Omega.{arith}
 use lib.Dec.{T, ltb, leb, eqb, ltb→lt, nltb→le}
@@ -86,9 +86,9 @@ value-bits (fin t m e) s w h =
     ∙ ap (λ (b : Bool). signBit b + (size w - 24) * lead + w / 2 ^ (size w - 24)) (h .0)
     ∙ add-assoc (signBit s) ((size w - 24) * lead) (w / 2 ^ (size w - 24))
 
-invalue-bits : (s : Bool) → toBits binary32 (inf s) ≡ signBit s + infinite
+infinity-bits : (s : Bool) → toBits binary32 (inf s) ≡ signBit s + infinite
 unfolding toBits
-invalue-bits s = refl
+infinity-bits s = refl
 
 units-bits : (s : Bool) (q k : ℕ) → Kept k q → toBits binary32 (units binary32 s q k) ≡ signBit s + min (k * lead + q) infinite
 unfolding units
@@ -101,7 +101,7 @@ units-bits s q k i = go (ltb (q * 2 ^ k) (2 ^ 277)) (λ t. not-over q k i (ltb�
         value-bits (odd 25 s q k 149) s (q * 2 ^ k) (odd-sign 25 s q k 149) ∙ ap (λ (x : ℕ). signBit s + x) (written q k i ∙ omega arith)
     go false u v =
         let l = v tt in
-        invalue-bits s ∙ ap (λ (x : ℕ). signBit s + x) (omega arith)
+        infinity-bits s ∙ ap (λ (x : ℕ). signBit s + x) (omega arith)
 
 pub round-bits : (s : Bool) (w : ℕ) → toBits binary32 (round binary32 s w (2 ^ 149)) ≡ signBit s + nearestBits w
 unfolding nearestBits
@@ -210,14 +210,6 @@ add-values (fin s' m e) (fin t' n d) s t A B C P h k =
 
 -- ---- the exact sum, rounded once
 
-and-true : (s : Bool) → (s && true) ≡ s
-and-true true = refl
-and-true false = refl
-
-and-false : (s : Bool) → (s && false) ≡ false
-and-false true = refl
-and-false false = refl
-
 -- a size that is rounded with a number's own sign
 rounds : {z : ℤ} (s : Bool) (w : ℕ) → IsSigned z s w → toBits binary32 (round binary32 s w (2 ^ 149)) ≡ bitsOf z
 rounds s w i = round-bits s w ∙ sym (bits-signed i)
@@ -241,7 +233,7 @@ sum-bits false false A B h = rounds false (A + B) (record { is = add-like false 
 sum-bits true false A B h = differs true A B
 sum-bits false true A B h = differs false A B
 
-module _ (a b : ℕ) (wide : a < 0x100000000) (fa : a % sign < infinite) (fb : b % sign < infinite) (nonzero : a ≡ sign → ⊥) where
+module _ (a b : ℕ) (wide : a < 2 ^ 32) (fa : a % sign < infinite) (fb : b % sign < infinite) (nonzero : a ≡ sign → ⊥) where
   pub add-bits : toBits binary32 (add binary32 (ofBits binary32 a) (ofBits binary32 b)) ≡ bitsOf (scaled a +ℤ scaled b)
   unfolding scaled
   add-bits =

@@ -1,5 +1,5 @@
--- The rounding in words. Where `bitsOf z` is finite it is a value nearest to z: none is nearer (`nearest`), and where another is as near its bits are even (`even`). It is finite exactly where z is
--- below the largest value and half its last place (`is-finite`, `is-infinite`). Assumes nothing.
+-- The rounding in words. Where `bitsOf z` is finite it is a value nearest to z: none is nearer (`nearest`), and where another is as near its bits are even (`even`). It is finite exactly where z is,
+-- in size, below the largest value and half its last place (`is-finite`, `is-infinite`). Assumes nothing.
 use Prim.Native.Nat.{ℕ, suc, _+_, _-_, _*_, _%_, _^_, _<_, _≤_, min, compare, Ordering, Ordering·lt, Ordering·eq, Ordering·gt}
 use mathlib.Core.Path.{_≡_, refl, subst, sym, ap, ap₂, _∙_}
 use mathlib.Core.Logic.{_⊎_, inl, inr}
@@ -13,10 +13,10 @@ use lib.Ieee.{size}
 use lib.Ieee.Digits.{back, size-lt, size-le, size-reaches}
 use lib.Ieee.Nearest.{closest}
 use Rattle.rounding.specs.Parts.{sign, infinite, lead, full, place, digits, magnitude, signed, scaled, nearestBits, bitsOf}
-use Rattle.rounding.specs.PartLaws.{parts, magnitude-zero, magnitude-one}
+use Rattle.rounding.specs.PartLaws.{parts, magnitude-zero, magnitude-injective}
 use Rattle.rounding.specs.Closest.{Told, told, gap, closest-half, closest-nearest, closest-even}
 use Rattle.rounding.specs.Rounding.{pow-lt-back, kept, kept-parts, bits-pos, bits-le}
-use Rattle.rounding.specs.Signed.{far, far-like, far-unlike, signBit, negative, is-signed, bits-signed, rest-of, whole-of, scaled-of}
+use Rattle.rounding.specs.Signed.{distance, distance-like, distance-unlike, signBit, negative, is-signed, bits-signed, rest-of, whole-of, scaled-of}
 
 -- ---- sizes
 
@@ -73,7 +73,7 @@ module _ (w : ℕ) (finite : nearestBits w < infinite) where
     where
       go : ((m : ℕ) × (magnitude p ≡ m * 2 ^ k)) ⊎ (gap (q * 2 ^ k) w < gap (magnitude p) w) → nearestBits w % 2 ≡ 0
       go (inl (m, e)) =
-          let other : m ≡ q → ⊥ = λ s. n (magnitude-one p (nearestBits w) (e ∙ ap (λ (x : ℕ). x * 2 ^ k) s ∙ sym value)) in
+          let other : m ≡ q → ⊥ = λ s. n (magnitude-injective p (nearestBits w) (e ∙ ap (λ (x : ℕ). x * 2 ^ k) s ∙ sym value)) in
           let even = closest-even w (2 ^ k) (pow-pos k) m other (ap (λ (x : ℕ). gap x w) (sym e) ∙ g ∙ ap (λ (x : ℕ). gap x w) value) in
           omega (arith, bits, even)
       go (inr l) =
@@ -83,13 +83,13 @@ module _ (w : ℕ) (finite : nearestBits w < infinite) where
 -- ---- what is finite
 
 -- the largest value, 2 ^ 277 less its last place, 2 ^ 253, and half of that
-abbrev pub bound : ℕ
-bound = 2 ^ 277 - 2 ^ 252
+abbrev pub overflowFrom : ℕ
+overflowFrom = 2 ^ 277 - 2 ^ 252
 
 under : (w q c half : ℕ) → c ≡ half * 2 → w < full * c - half → 2 * gap (q * c) w ≤ c → q < full
 under w q c half e h l = lt-of-mul-lt-mul-right c (omega arith)
 
-finite-size : (w : ℕ) → w < bound → nearestBits w < infinite
+finite-size : (w : ℕ) → w < overflowFrom → nearestBits w < infinite
 unfolding nearestBits
 finite-size w h = below (size w - 24) (closest w (2 ^ (size w - 24))) few (kept w .most) last
   where
@@ -105,7 +105,7 @@ finite-size w h = below (size w - 24) (closest w (2 ^ (size w - 24))) few (kept 
     last : size w - 24 ≡ 253 → closest w (2 ^ (size w - 24)) < full
     last e = subst (λ (k : ℕ). closest w (2 ^ k) < full) (sym e) (under w (closest w (2 ^ 253)) (2 ^ 253) (2 ^ 252) refl h (closest-half w (2 ^ 253) (pow-pos 253)))
 
--- the bound is half-way between two multiples, of which the upper has even digits
+-- the number is half-way between two multiples, of which the upper one is even
 reaches : (w c half : ℕ) → 0 < c → c ≡ half * 2 → full * c - half ≤ w → full ≤ closest w c
 reaches w c half C e h = le-of-suc-le-suc (lt-of-not-le no)
   where
@@ -116,7 +116,7 @@ reaches w c half C e h = le-of-suc-le-suc (lt-of-not-le no)
         let t : gap (full * c) w ≡ gap (closest w c * c) w = omega (arith, closest-half w c C) in
         omega (arith, closest-even w c C full (λ s. omega arith) t)
 
-infinite-size : (w : ℕ) → bound ≤ w → nearestBits w ≡ infinite
+infinite-size : (w : ℕ) → overflowFrom ≤ w → nearestBits w ≡ infinite
 unfolding nearestBits
 infinite-size w h = above (size w - 24) (closest w (2 ^ (size w - 24))) many (kept w .least) last
   where
@@ -138,10 +138,10 @@ infinite-size w h = above (size w - 24) (closest w (2 ^ (size w - 24))) many (ke
 rest : (z : ℤ) → bitsOf z % sign ≡ nearestBits (natAbs z)
 rest z = ap (λ (x : ℕ). x % sign) (bits-signed (is-signed z)) ∙ rest-of (negative z) (nearestBits (natAbs z)) (omega (arith, bits-le (natAbs z)))
 
-pub is-finite : (z : ℤ) → natAbs z < bound → bitsOf z % sign < infinite
+pub is-finite : (z : ℤ) → natAbs z < overflowFrom → bitsOf z % sign < infinite
 is-finite z h = rw (rest z) (finite-size (natAbs z) h)
 
-pub is-infinite : (z : ℤ) → bound ≤ natAbs z → bitsOf z % sign ≡ infinite
+pub is-infinite : (z : ℤ) → overflowFrom ≤ natAbs z → bitsOf z % sign ≡ infinite
 is-infinite z h = rest z ∙ infinite-size (natAbs z) h
 
 same-or-not : (t s : Bool) → (t ≡ s) ⊎ (t ≡ not s)
@@ -163,39 +163,39 @@ module _ (z : ℤ) (finite : bitsOf z % sign < infinite) where
   below : n < infinite
   below = rw (sym (rest z)) finite
 
-  result : far (scaled (bitsOf z)) z ≡ gap (magnitude n) w
+  result : distance (scaled (bitsOf z)) z ≡ gap (magnitude n) w
   result =
-      ap (λ (x : ℤ). far x z) (ap scaled (bits-signed (is-signed z)) ∙ scaled-of s n (omega (arith, below)))
-      ∙ ap (λ (x : ℤ). far (signed s (magnitude n)) x) (is-signed z .is)
-      ∙ far-like s (magnitude n) w
+      ap (λ (x : ℤ). distance x z) (ap scaled (bits-signed (is-signed z)) ∙ scaled-of s n (omega (arith, below)))
+      ∙ ap (λ (x : ℤ). distance (signed s (magnitude n)) x) (is-signed z .is)
+      ∙ distance-like s (magnitude n) w
 
   -- another value, of z's sign or of the other
   abbrev Like : ℕ → Type 0
-  Like c = (leb sign c ≡ s) × (far (scaled c) z ≡ gap (magnitude (c % sign)) w)
+  Like c = (leb sign c ≡ s) × (distance (scaled c) z ≡ gap (magnitude (c % sign)) w)
 
   abbrev Unlike : ℕ → Type 0
-  Unlike c = (leb sign c ≡ not s) × (far (scaled c) z ≡ magnitude (c % sign) + w)
+  Unlike c = (leb sign c ≡ not s) × (distance (scaled c) z ≡ magnitude (c % sign) + w)
 
   other : (c : ℕ) → Like c ⊎ Unlike c
   unfolding scaled
   other c = go (same-or-not (leb sign c) s)
     where
-      at : (t : Bool) → leb sign c ≡ t → far (scaled c) z ≡ far (signed t (magnitude (c % sign))) (signed s w)
-      at t e = ap (λ (x : ℤ). far x z) (ap (λ (u : Bool). signed u (magnitude (c % sign))) e) ∙ ap (λ (x : ℤ). far (signed t (magnitude (c % sign))) x) (is-signed z .is)
+      at : (t : Bool) → leb sign c ≡ t → distance (scaled c) z ≡ distance (signed t (magnitude (c % sign))) (signed s w)
+      at t e = ap (λ (x : ℤ). distance x z) (ap (λ (u : Bool). signed u (magnitude (c % sign))) e) ∙ ap (λ (x : ℤ). distance (signed t (magnitude (c % sign))) x) (is-signed z .is)
 
       go : (leb sign c ≡ s) ⊎ (leb sign c ≡ not s) → Like c ⊎ Unlike c
-      go (inl e) = inl (e, at s e ∙ far-like s (magnitude (c % sign)) w)
-      go (inr e) = inr (e, at (not s) e ∙ far-unlike s (magnitude (c % sign)) w)
+      go (inl e) = inl (e, at s e ∙ distance-like s (magnitude (c % sign)) w)
+      go (inr e) = inr (e, at (not s) e ∙ distance-unlike s (magnitude (c % sign)) w)
 
-  pub nearest : (c : ℕ) → far (scaled (bitsOf z)) z ≤ far (scaled c) z
+  pub nearest : (c : ℕ) → distance (scaled (bitsOf z)) z ≤ distance (scaled c) z
   nearest c = go (other c)
     where
-      go : Like c ⊎ Unlike c → far (scaled (bitsOf z)) z ≤ far (scaled c) z
+      go : Like c ⊎ Unlike c → distance (scaled (bitsOf z)) z ≤ distance (scaled c) z
       go (inl e) = omega (arith, result, e .1, nearest-size w below (c % sign))
       go (inr e) = omega (arith, result, e .1, nearest-size w below 0, magnitude-zero)
 
   -- of all bits but negative zero's, which stand for the number that zero's stand for
-  pub even : (c : ℕ) → c < 0x100000000 → (c ≡ sign → ⊥) → (c ≡ bitsOf z → ⊥) → far (scaled c) z ≡ far (scaled (bitsOf z)) z → bitsOf z % 2 ≡ 0
+  pub even : (c : ℕ) → c < 2 ^ 32 → (c ≡ sign → ⊥) → (c ≡ bitsOf z → ⊥) → distance (scaled c) z ≡ distance (scaled (bitsOf z)) z → bitsOf z % 2 ≡ 0
   even c h nonzero differs g = subst (λ (x : ℕ). x % 2 ≡ 0) (sym (bits-signed (is-signed z))) (sign-even s n (go (other c)))
     where
       sign-even : (t : Bool) (x : ℕ) → x % 2 ≡ 0 → (signBit t + x) % 2 ≡ 0
@@ -216,5 +216,5 @@ module _ (z : ℤ) (finite : bitsOf z % sign < infinite) where
       go (inr e) =
           let m = magnitude (c % sign) in
           let none : m ≡ 0 = omega (arith, nearest-size w below 0, magnitude-zero, e .1, g, result) in
-          let some : 0 < w = from-zero (leb sign c) s refl refl (e .0) (magnitude-one (c % sign) 0 (none ∙ sym magnitude-zero)) in
+          let some : 0 < w = from-zero (leb sign c) s refl refl (e .0) (magnitude-injective (c % sign) 0 (none ∙ sym magnitude-zero)) in
           even-size w below 0 (λ x. omega (arith, bits-pos w some)) (omega (arith, magnitude-zero, none, e .1, g, result))

@@ -38,6 +38,10 @@ leading p h = go (parts p .high)
     go (inl e) = absurd (omega arith)
     go (inr l) = l
 
+-- from so many places apart on, the smaller of two values does not move the larger
+abbrev pub far : ℕ
+far = 26
+
 module _ (hi lo : ℕ) where
   abbrev apart : ℕ
   apart = place hi - place lo
@@ -81,12 +85,12 @@ module _ (hi lo : ℕ) where
   unfolding magnitude
   magnitude-lt h = lt-of-lt-of-le (mul-lt-mul-of-pos-right (aligned-above h) (pow-pos (place lo))) (le-of-eq (aligned-is (omega arith)))
 
-  -- 26 places apart, lo is less than a quarter of the last place of hi
-  pub quarter : 26 ≤ place hi - place lo → 4 * magnitude lo < 2 ^ place hi
+  -- from so many places apart on, lo is less than a quarter of the last place of hi
+  pub quarter : far ≤ place hi - place lo → 4 * magnitude lo < 2 ^ place hi
   unfolding magnitude
   quarter f =
-      let g : 26 + place lo ≤ place hi = omega arith in
-      omega (arith, mul-lt-mul-of-pos-right (parts lo .few) (pow-pos (place lo)), pow-add 2 26 (place lo), pow-mono g)
+      let g : far + place lo ≤ place hi = omega arith in
+      omega (arith, mul-lt-mul-of-pos-right (parts lo .few) (pow-pos (place lo)), pow-add 2 far (place lo), pow-mono g)
 
 pub magnitude-zero : magnitude 0 ≡ 0
 unfolding magnitude
@@ -104,8 +108,8 @@ magnitude-mono lo hi h = go (compare lo hi) (told lo hi)
     go Ordering·gt l = absurd (omega arith)
 
 -- no two have one value
-pub magnitude-one : (p r : ℕ) → magnitude p ≡ magnitude r → p ≡ r
-magnitude-one p r e = go (compare p r) (told p r)
+pub magnitude-injective : (p r : ℕ) → magnitude p ≡ magnitude r → p ≡ r
+magnitude-injective p r e = go (compare p r) (told p r)
   where
     go : (o : Ordering) → Told o p r → p ≡ r
     go Ordering·lt l = absurd (omega (arith, magnitude-lt r p l))

@@ -1,26 +1,26 @@
--- Metres as whole numbers. Each binary32 value is a whole number of times 2 ^ -149, the smallest above zero: `scaled` of its bits. `bitsOf` goes back: the bits of the value nearest to a whole number
+-- Metres as whole numbers. Each finite binary32 value is a whole number of times 2 ^ -149, the smallest above zero: `scaled` of its bits. `bitsOf` goes back: the bits of the value nearest to a whole number
 -- of times 2 ^ -149. That this is IEEE's format and rounding is proved (`Binary32`), as is what "nearest" means (`Nearest`). Assumes nothing.
 use Prim.Native.Nat.{ℕ, suc, _+_, _-_, _*_, _/_, _%_, _^_, min}
 use mathlib.Core.Bool.{Bool, cond}
 use lib.Dec.{leb}
 use lib.IntN.{ℤ, pos, negsuc, negℤ}
-use lib.Ieee.{size}
+use lib.Ieee.{binary32, prec, hid, ones, top, size}
 use lib.Ieee.Nearest.{closest}
 
--- the sign's bit: the bits below it are a remainder by it
+-- the sign's bit, 80000000: the bits below it are a remainder by it
 abbrev pub sign : ℕ
-sign = 0x80000000
+sign = top binary32
 
--- the bits of an infinity: those of a finite value are, without the sign, below it
+-- the bits of an infinity, 7F800000: those of a finite value are, without the sign, below it
 abbrev pub infinite : ℕ
-infinite = 0x7f800000
+infinite = ones binary32 * hid binary32
 
--- numbers of 24 digits, which a value has, are from `lead` on and below `full`; `lead` is the weight of the exponent too
+-- numbers of 24 digits, which a normal value has, are from `lead` on and below `full`; `lead` is the weight of the exponent too
 abbrev pub lead : ℕ
-lead = 0x800000
+lead = hid binary32
 
 abbrev pub full : ℕ
-full = 0x1000000
+full = 2 ^ prec binary32
 
 -- ---- bits to a number
 

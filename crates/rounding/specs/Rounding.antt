@@ -77,7 +77,7 @@ unmoved m e w l h a b = go (compare w (lead * 2 ^ e)) (told w (lead * 2 ^ e))
 
 -- ---- the value of the bits
 
--- q digits kept, k dropped: 24 are kept, or fewer where none are dropped; a carry makes them 2 ^ 24
+-- q is what is kept of a number that drops k digits: 24 digits, or fewer where none are dropped; a carry makes it 2 ^ 24
 pub record Kept (k q : ℕ) : Type 0 where
   pub most : q ≤ full
   pub least : (k ≡ 0) ⊎ (lead ≤ q)

@@ -1,5 +1,5 @@
 -- Whole numbers by sign and size: their sums, and how far apart they are. And the bits of one, by sign and size. Assumes nothing.
-use Prim.Native.Nat.{ℕ, zero, suc, _+_, _-_, _%_, _<_, _≤_, compare, Ordering, Ordering·lt, Ordering·eq, Ordering·gt}
+use Prim.Native.Nat.{ℕ, zero, suc, _+_, _-_, _%_, _^_, _<_, _≤_, compare, Ordering, Ordering·lt, Ordering·eq, Ordering·gt}
 use mathlib.Core.Path.{_≡_, refl, sym, ap, ap₂, _∙_}
 use mathlib.Core.Bool.{Bool, true, false, not, cond}
 use native.Mathlib.Nat.{le-of-eq, lt-of-not-le}
@@ -52,16 +52,16 @@ unsigned true = refl
 
 -- ---- distances
 
-abbrev pub far : ℤ → ℤ → ℕ
-far x y = natAbs (x -ℤ y)
+abbrev pub distance : ℤ → ℤ → ℕ
+distance x y = natAbs (x -ℤ y)
 
 size-signed : (s : Bool) (w : ℕ) → natAbs (signed s w) ≡ w
 size-signed false w = refl
 size-signed true zero = refl
 size-signed true (suc w) = refl
 
-pub far-like : (s : Bool) (m w : ℕ) → far (signed s m) (signed s w) ≡ gap m w
-far-like s m w = ap (λ (x : ℤ). natAbs (signed s m +ℤ x)) (neg-signed s w) ∙ go (compare m w) (told m w)
+pub distance-like : (s : Bool) (m w : ℕ) → distance (signed s m) (signed s w) ≡ gap m w
+distance-like s m w = ap (λ (x : ℤ). natAbs (signed s m +ℤ x)) (neg-signed s w) ∙ go (compare m w) (told m w)
   where
     at-most : w ≤ m → natAbs (signed s m +ℤ signed (not s) w) ≡ gap m w
     at-most h = ap natAbs (add-more s m w h) ∙ size-signed s (m - w) ∙ omega arith
@@ -71,8 +71,8 @@ far-like s m w = ap (λ (x : ℤ). natAbs (signed s m +ℤ x)) (neg-signed s w) 
     go Ordering·eq h = at-most (le-of-eq (sym h))
     go Ordering·gt h = at-most (omega arith)
 
-pub far-unlike : (s : Bool) (m w : ℕ) → far (signed (not s) m) (signed s w) ≡ m + w
-far-unlike s m w = ap (λ (x : ℤ). natAbs (signed (not s) m +ℤ x)) (neg-signed s w) ∙ ap natAbs (add-like (not s) m w) ∙ size-signed (not s) (m + w)
+pub distance-unlike : (s : Bool) (m w : ℕ) → distance (signed (not s) m) (signed s w) ≡ m + w
+distance-unlike s m w = ap (λ (x : ℤ). natAbs (signed (not s) m +ℤ x)) (neg-signed s w) ∙ ap natAbs (add-like (not s) m w) ∙ size-signed (not s) (m + w)
 
 -- ---- bits
 
@@ -110,7 +110,7 @@ pub rest-of : (s : Bool) (p : ℕ) → p < sign → (signBit s + p) % sign ≡ p
 rest-of false p h = omega arith
 rest-of true p h = omega arith
 
-pub whole-of : (a : ℕ) → a < 0x100000000 → signBit (leb sign a) + a % sign ≡ a
+pub whole-of : (a : ℕ) → a < 2 ^ 32 → signBit (leb sign a) + a % sign ≡ a
 whole-of a h = go (leb sign a) refl
   where
     go : (s : Bool) → leb sign a ≡ s → signBit s + a % sign ≡ a
@@ -122,12 +122,12 @@ unfolding scaled
 scaled-of s p h = ap₂ (λ (t : Bool) (q : ℕ). signed t (magnitude q)) (sign-of s p h) (rest-of s p h)
 
 -- only the sign alone is negative and nothing
-pub not-zero : (a : ℕ) → a < 0x100000000 → (a ≡ sign → ⊥) → T (leb sign a) → 0 < magnitude (a % sign)
+pub not-zero : (a : ℕ) → a < 2 ^ 32 → (a ≡ sign → ⊥) → T (leb sign a) → 0 < magnitude (a % sign)
 not-zero a h n t = magnitude-pos (a % sign) (lt-of-not-le (λ (z : a % sign ≤ 0). n (sym (whole-of a h) ∙ ap (λ (s : Bool). signBit s + a % sign) (is-true (leb sign a) t) ∙ omega arith)))
 
 -- ---- never negative zero
 
-pub bits-lt : (z : ℤ) → bitsOf z < 0x100000000
+pub bits-lt : (z : ℤ) → bitsOf z < 2 ^ 32
 unfolding bitsOf
 bits-lt (pos w) = omega (arith, bits-le w)
 bits-lt (negsuc w) = omega (arith, bits-le (suc w))

@@ -65,8 +65,8 @@ module _ {operation : (k a b : ℕ) → Option Model.Value} {g : ℤ → ℤ →
   pub metres-alone : (x : Float) → a ≡ Metres x → (tagOf the-type b ≡ 0) ⊎ (tagOf the-type b ≡ 1) → Gives none
   metres-alone x d = alone 2 0 1 (ap (λ (v : Value). (valueIs v) .kind) d) (λ e. omega arith) (λ e. omega arith)
 
-  pub metres-legal : (x y : Float) → a ≡ Metres x → b ≡ Metres y → T (legalValue (value metres (toBits binary32 x))) × T (legalValue (value metres (toBits binary32 y)))
-  metres-legal x y d e = (subst (λ (v : Value). T (legalValue (valueIs v))) d (p .first), subst (λ (v : Value). T (legalValue (valueIs v))) e (p .second))
+pub metres-legal : (a b : Value) → Alike a b → (x y : Float) → a ≡ Metres x → b ≡ Metres y → T (legalValue (value metres (toBits binary32 x))) × T (legalValue (value metres (toBits binary32 y)))
+metres-legal a b p x y d e = (subst (λ (v : Value). T (legalValue (valueIs v))) d (p .first), subst (λ (v : Value). T (legalValue (valueIs v))) e (p .second))
 
 -- ---- operands that were read from a kind and bits
 

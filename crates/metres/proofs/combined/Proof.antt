@@ -38,7 +38,7 @@ joined-requires c κs =
     let k = p .before .before in
     let s =
     near (k .args .hi) (k .args .lo) (k .args .minus) (k .pre .0) (k .pre .1 .0) (k .pre .1 .1) (p .before .place-of .result) (p .place-of2 .result) (c .digits-of2 .result) (c .before .digits-of .result)
-    (p .before .place-of .ensures) (p .place-of2 .ensures) (c .digits-of2 .ensures) (c .before .digits-of .ensures) (c .before .before .if1 .taken) in
+    (p .before .place-of .ensures) (p .place-of2 .ensures) (c .digits-of2 .ensures) (c .before .digits-of .ensures) (omega (arith, c .before .before .if1 .taken)) in
     (s .few, (s .fewer, s .above))
 
 rounded-requires : tie.Need-rounded-requires
@@ -47,7 +47,7 @@ rounded-requires c κs =
     let k = p .before .before in
     let s =
     near (k .args .hi) (k .args .lo) (k .args .minus) (k .pre .0) (k .pre .1 .0) (k .pre .1 .1) (p .before .place-of .result) (p .place-of2 .result) (c .before .digits-of2 .result) (c .before .before .digits-of .result)
-    (p .before .place-of .ensures) (p .place-of2 .ensures) (c .before .digits-of2 .ensures) (c .before .before .digits-of .ensures) (c .before .before .before .if1 .taken) in
+    (p .before .place-of .ensures) (p .place-of2 .ensures) (c .before .digits-of2 .ensures) (c .before .before .digits-of .ensures) (omega (arith, c .before .before .before .if1 .taken)) in
     rw (c .joined .ensures) (s .joined, (s .lowest, s .some))
 
 returns : tie.Need-returns
@@ -56,14 +56,14 @@ returns c =
     let k = p .before .before in
     let s =
     near (k .args .hi) (k .args .lo) (k .args .minus) (k .pre .0) (k .pre .1 .0) (k .pre .1 .1) (p .before .place-of .result) (p .place-of2 .result) (c .before .before .digits-of2 .result) (c .before .before .before .digits-of .result)
-    (p .before .place-of .ensures) (p .place-of2 .ensures) (c .before .before .digits-of2 .ensures) (c .before .before .before .digits-of .ensures) (c .before .before .before .before .if1 .taken) in
+    (p .before .place-of .ensures) (p .place-of2 .ensures) (c .before .before .digits-of2 .ensures) (c .before .before .before .digits-of .ensures) (omega (arith, c .before .before .before .before .if1 .taken)) in
     c .rounded .ensures ∙ ap nearestBits (ap (λ (x : ℕ). x * 2 ^ (p .before .place-of .result)) (c .before .joined .ensures) ∙ s .exact)
 
 returns-2 : tie.Need-returns-2
 returns-2 c =
     let p = c .before in
     let k = p .before .before in
-    stays (k .args .hi) (k .args .lo) (k .args .minus) (k .pre .0) (k .pre .1 .0) (k .pre .1 .1) (p .before .place-of .result) (p .place-of2 .result) (p .before .place-of .ensures) (p .place-of2 .ensures) (c .if1 .left)
+    stays (k .args .hi) (k .args .lo) (k .args .minus) (k .pre .0) (k .pre .1 .0) (k .pre .1 .1) (p .before .place-of .result) (p .place-of2 .result) (p .before .place-of .ensures) (p .place-of2 .ensures) (omega (arith, c .if1 .left))
 
 pub combined-spec : {M : Type 1} → statement M
 combined-spec =

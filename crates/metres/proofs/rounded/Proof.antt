@@ -59,21 +59,16 @@ add-bits-2 c =
     let r = c .nearest .ensures ∙ ap (λ (x : ℕ). closest x (2 ^ (d .dropped .result))) (s .exact) in
     omega (arith, s, r)
 
+capped-requires : tie.Need-capped-requires
+capped-requires c κs = search needs
+
 returns : tie.Need-returns
 returns c =
     let d = c .before .before in
     let k = d .before in
     let s = step (k .args .n) (k .args .place) (d .dropped .result) (k .pre .0) (k .pre .1 .0) (k .pre .1 .1) (d .dropped .ensures) in
     let r = c .before .nearest .ensures ∙ ap (λ (x : ℕ). closest x (2 ^ (d .dropped .result))) (s .exact) in
-    omega (arith, s, r)
-
-returns-2 : tie.Need-returns-2
-returns-2 c =
-    let d = c .before .before in
-    let k = d .before in
-    let s = step (k .args .n) (k .args .place) (d .dropped .result) (k .pre .0) (k .pre .1 .0) (k .pre .1 .1) (d .dropped .ensures) in
-    let r = c .before .nearest .ensures ∙ ap (λ (x : ℕ). closest x (2 ^ (d .dropped .result))) (s .exact) in
-    omega (arith, s, r)
+    omega (arith, s, r, c .capped .ensures)
 
 pub rounded-spec : {M : Type 1} → statement M
 rounded-spec =
@@ -89,5 +84,5 @@ rounded-spec =
     nearest-requires
     cast-bits
     add-bits-2
-    returns
-    returns-2)
+    capped-requires
+    returns)

@@ -1,11 +1,12 @@
 -- `sums::finite_metres` meets its contract. Assumes nothing.
+use native.Mathlib.Omega.{arith}
 use Rattle.values.proofs.Reading.{no-nan-bits}
 use Rattle.sums.proofs.Rounded.{finite-given, infinite-refused}
 use Rattle.sums.proofs.finite_metres.Statement.{statement}
 use Rattle.sums.proofs.finite_metres.Tie as tie
 
 float-from-bits-t5 : tie.Need-float-from-bits-t5
-float-from-bits-t5 c = no-nan-bits (c .before .args .bits) (c .if1 .taken)
+float-from-bits-t5 c = no-nan-bits (c .before .args .bits) (omega (arith, c .if1 .taken))
 
 returns : tie.Need-returns
 returns c = finite-given (c .before .args .bits) (c .if1 .taken)

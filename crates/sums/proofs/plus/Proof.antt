@@ -30,7 +30,7 @@ add-metres-requires c κs =
     let s = c .before .before .before .before .before .before in
     let a = c .before .before .before .before .a2 .given in
     let b = c .before .b2 .given in
-    metres-legal plus-table (s .args .a) (s .args .b) (s .pre) (a .0 .0) (b .0 .0) (a .1) (b .1)
+    metres-legal (s .args .a) (s .args .b) (s .pre) (a .0 .0) (b .0 .0) (a .1) (b .1)
 
 returns : tie.Need-returns
 returns c =
