@@ -59,7 +59,7 @@ uint64_t replica_layout(void);
 
 #define REPLICA_STATE_BYTES 24768 /* a state buffer has exactly this length */
 #define REPLICA_REPLY_BYTES 3564  /* a reply buffer has at least this length; no call replies more */
-#define REPLICA_STACK_BYTES 40960 /* a call used at most 36,192, measured by painting; the rest is reserve */
+#define REPLICA_STACK_BYTES 40960 /* a call used at most 36,320, measured by painting; the rest is reserve */
 
 /*
  * What replica_take returns where it turned the call back: no byte of any buffer has changed. They are tried in this
