@@ -66,7 +66,7 @@ expected c = record { answer = c .answer; fill = length (c .filled); bytes = c .
 
 -- ---- the table
 
--- "in(0, name 7, whole into 0) then out(0, name 7, variable 0 plus 1), 33 body bytes"
+-- "in(0, name 7, whole into 0) then out(0, name 7, variable 0 plus 1)", 35 body bytes
 abbrev inSeven : Operation
 inSeven = operationWith 1 0 0 (given 1 7 ∷ into 0 0 ∷ [])
 
@@ -74,7 +74,7 @@ abbrev outSeven : Operation
 outSeven = operationWith 5 0 0 (given 1 7 ∷ plusOf 0 0 1 ∷ [])
 
 abbrev beganSeven : List ℕ
-beganSeven = 2 ∷ 0 ∷ 5 ∷ 1 ∷ 1 ∷ 0 ∷ 2 ∷ 0 ∷ 1 ∷ 0 ∷ 0 ∷ 0 ∷ 7 ∷ 1 ∷ 0 ∷ 0 ∷ 0 ∷ []
+beganSeven = 2 ∷ 0 ∷ 5 ∷ 1 ∷ 1 ∷ 0 ∷ 0 ∷ 2 ∷ 0 ∷ 1 ∷ 0 ∷ 0 ∷ 0 ∷ 7 ∷ 1 ∷ 0 ∷ 0 ∷ 0 ∷ []
 
 abbrev row : (room host process : ℕ) → Operation → List Addition → (answer : ℕ) → List ℕ → Case
 row room h p g as′ n filled = record { room = room; host = h; process = p; guard = g; additions = as′; answer = n; filled = filled }
@@ -90,25 +90,24 @@ operationRefused o = row 40 2 5 inSeven (operation o ∷ []) 6 beganSeven
 unfoldable pub writtenBodies : List Case
 writtenBodies =
     row 8 2 6 truth [] 0 (2 ∷ 0 ∷ 6 ∷ 1 ∷ 0 ∷ 0 ∷ [])
-    ∷ row 33 2 5 inSeven (operation outSeven ∷ []) 0
-    (2 ∷ 0 ∷ 5 ∷ 1 ∷ 1 ∷ 0 ∷ 2 ∷ 0 ∷ 1 ∷ 0 ∷ 0 ∷ 0 ∷ 7 ∷ 1 ∷ 0 ∷ 0 ∷ 1 ∷ 5 ∷ 0 ∷ 2 ∷ 0 ∷ 1 ∷ 0 ∷ 0 ∷ 0 ∷ 7 ∷ 3 ∷ 0 ∷ 0 ∷ 0 ∷ 0 ∷ 0 ∷ 1 ∷ [])
+    ∷ row 35 2 5 inSeven (operation outSeven ∷ []) 0
+    (2 ∷ 0 ∷ 5 ∷ 1 ∷ 1 ∷ 0 ∷ 0 ∷ 2 ∷ 0 ∷ 1 ∷ 0 ∷ 0 ∷ 0 ∷ 7 ∷ 1 ∷ 0 ∷ 0 ∷ 1 ∷ 5 ∷ 0 ∷ 0 ∷ 2 ∷ 0 ∷ 1 ∷ 0 ∷ 0 ∷ 0 ∷ 7 ∷ 3 ∷ 0 ∷ 0 ∷ 0 ∷ 0 ∷ 0 ∷ 1 ∷ [])
     ∷ row 40 2 6 truth (operation (operationWith 5 0 0 (given 1 7 ∷ given 0 41 ∷ [])) ∷ []) 0
-    (2 ∷ 0 ∷ 6 ∷ 1 ∷ 0 ∷ 1 ∷ 5 ∷ 0 ∷ 2 ∷ 0 ∷ 1 ∷ 0 ∷ 0 ∷ 0 ∷ 7 ∷ 0 ∷ 0 ∷ 0 ∷ 0 ∷ 0 ∷ 41 ∷ [])
-    ∷ row 40 1 256 (operationWith 4 3 0 (anyOf 2 ∷ [])) (branch (operationWith 2 1 0 (anyOf 1 ∷ [])) ∷ operation (operationWith 6 1 2 []) ∷ []) 0
-    (1 ∷ 1 ∷ 0 ∷ 2 ∷ 4 ∷ 3 ∷ 1 ∷ 5 ∷ 2 ∷ 0 ∷ 2 ∷ 1 ∷ 1 ∷ 5 ∷ 1 ∷ 1 ∷ 6 ∷ 1 ∷ 2 ∷ 0 ∷ [])
+    (2 ∷ 0 ∷ 6 ∷ 1 ∷ 0 ∷ 1 ∷ 5 ∷ 0 ∷ 0 ∷ 2 ∷ 0 ∷ 1 ∷ 0 ∷ 0 ∷ 0 ∷ 7 ∷ 0 ∷ 0 ∷ 0 ∷ 0 ∷ 0 ∷ 41 ∷ [])
+    ∷ row 40 1 256 (operationWith 4 259 0 (anyOf 2 ∷ [])) (branch (operationWith 2 256 0 (anyOf 1 ∷ [])) ∷ operation (operationWith 6 65535 512 []) ∷ []) 0
+    (1 ∷ 1 ∷ 0 ∷ 2 ∷ 4 ∷ 1 ∷ 3 ∷ 1 ∷ 5 ∷ 2 ∷ 0 ∷ 2 ∷ 1 ∷ 0 ∷ 1 ∷ 5 ∷ 1 ∷ 1 ∷ 6 ∷ 255 ∷ 255 ∷ 2 ∷ 0 ∷ 0 ∷ [])
     ∷ row 40 0 0 (record { code = 0; from = 300; to = 301; count = 9; fields = fieldWith 6 9 99 5 ∷ [] }) (operation (operationWith 3 7 302 (fieldWith 5 2 99 5 ∷ [])) ∷ []) 0
-    (0 ∷ 0 ∷ 0 ∷ 1 ∷ 0 ∷ 1 ∷ 3 ∷ 7 ∷ 1 ∷ 5 ∷ 2 ∷ [])
+    (0 ∷ 0 ∷ 0 ∷ 1 ∷ 0 ∷ 1 ∷ 3 ∷ 0 ∷ 7 ∷ 1 ∷ 5 ∷ 2 ∷ [])
     ∷ []
 
 unfoldable pub refusedAdditions : List Case
 refusedAdditions =
     row 5 2 6 truth [] 2 []
-    ∷ row 32 2 5 inSeven (operation outSeven ∷ []) 2 beganSeven
+    ∷ row 34 2 5 inSeven (operation outSeven ∷ []) 2 beganSeven
     ∷ row 5 2 6 truth (operation outSeven ∷ []) 6 []
     ∷ row 0 16 5 truth [] 6 []
     ∷ guardRefused (operationWith 8 0 0 (given 0 1 ∷ []))
     ∷ guardRefused (operationWith 5 0 0 (given 0 1 ∷ []))
-    ∷ guardRefused (operationWith 1 256 0 (given 0 1 ∷ []))
     ∷ guardRefused (operationWith 1 0 0 [])
     ∷ guardRefused (operationWith 1 0 0 (given 0 1 ∷ given 0 1 ∷ given 0 1 ∷ given 0 1 ∷ given 0 1 ∷ given 0 1 ∷ given 0 1 ∷ []))
     ∷ guardRefused (operationWith 1 0 0 (fieldWith 6 0 0 0 ∷ []))
@@ -120,7 +119,6 @@ refusedAdditions =
     ∷ operationRefused (operationWith 1 0 0 (into 0 0 ∷ []))
     ∷ operationRefused (operationWith 5 0 0 (usedAs 1 ∷ []))
     ∷ operationRefused (operationWith 5 0 0 (plusOf 0 1 1 ∷ []))
-    ∷ operationRefused (operationWith 6 0 256 [])
     ∷ row 40 2 5 inSeven (branch (operationWith 5 0 0 (given 0 1 ∷ [])) ∷ []) 6 beganSeven
     ∷ []
 
@@ -144,9 +142,9 @@ eightCopies = copyAll ∷ copyAll ∷ copyAll ∷ copyAll ∷ copyAll ∷ copyAl
 abbrev threeBranches : List Addition
 threeBranches = branch (wholes 2) ∷ branch (wholes 3) ∷ branch (wholes 4) ∷ []
 
--- 4 + 4 * 40 + 2 * 39 + 2 * 4: 250 bytes
+-- 4 + 4 * 41 + 40 + 42: 250 bytes
 abbrev fullBody : List Addition
-fullBody = threeBranches ++ (operation (wholes 5) ∷ operation (wholes 5) ∷ copyAll ∷ copyAll ∷ [])
+fullBody = threeBranches ++ (operation (wholes 5) ∷ operation (wholes 6) ∷ [])
 
 unfoldable pub limits : List (ℕ × ℕ)
 limits =
@@ -163,7 +161,7 @@ limits =
 pub record Cases : Type 0 where
   pub bodies : map wrote writtenBodies ≡ map expected writtenBodies
   pub refusals : map wrote refusedAdditions ≡ map expected refusedAdditions
-  pub ends : limits ≡ (0, 38) ∷ (6, 38) ∷ (0, 164) ∷ (6, 164) ∷ (0, 250) ∷ (6, 250) ∷ []
+  pub ends : limits ≡ (0, 54) ∷ (6, 54) ∷ (0, 168) ∷ (6, 168) ∷ (0, 250) ∷ (6, 250) ∷ []
 
 pub cases : Cases
 unfolding computes fieldOf fieldIs fieldsAre operationOf operationIs hasForm isHanded handed begun inLast withOperation withBranch isWritable refusedBy filledWith written held beginOn addTo addOperation addBranch writes wrote expected writtenBodies refusedAdditions limits

@@ -11,7 +11,7 @@ use statements::Operation;
 use words::WRITER_ROOM;
 use writer::Added;
 use writer::MALFORMED;
-use writer::has_bytes;
+use writer::is_handed;
 
 // Whether the filled bytes are a legal body.
 fn holds_body(buffer: &[u8], fill: usize) -> bool
@@ -27,7 +27,7 @@ fn holds_body(buffer: &[u8], fill: usize) -> bool
 pub fn begin_at(buffer: &mut [u8], host: u8, process: u16, guard: Operation) -> Added
     ensures { λ r. ⌜ writtenIs r (now (buffer .exit)) ≡ beginOn (now (buffer .entry)) host process guard ⌝ }
 {
-    if !has_bytes(guard) {
+    if !is_handed(guard) {
         return Added {
             answer: MALFORMED,
             fill: 0,
@@ -48,7 +48,7 @@ pub fn operation_at(buffer: &mut [u8], fill: usize, operation: Operation) -> Add
             fill,
         };
     }
-    if !has_bytes(operation) {
+    if !is_handed(operation) {
         return Added {
             answer: MALFORMED,
             fill,
@@ -69,7 +69,7 @@ pub fn branch_at(buffer: &mut [u8], fill: usize, guard: Operation) -> Added
             fill,
         };
     }
-    if !has_bytes(guard) {
+    if !is_handed(guard) {
         return Added {
             answer: MALFORMED,
             fill,

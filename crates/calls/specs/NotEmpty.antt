@@ -30,11 +30,11 @@ record1 = 82 ∷ 86 ∷ 0 ∷ 1 ∷ 0 ∷ 0 ∷ 0 ∷ 1 ∷ 2 ∷ []
 
 -- at 2, process 5: in(0, name 7, whole into 0), then out(0, name 7, variable 0 plus 1)
 abbrev pub record2 : Bytes
-record2 = 65 ∷ 71 ∷ 0 ∷ 33 ∷ 0 ∷ 0 ∷ 0 ∷ 2 ∷ 2 ∷ 0 ∷ 5 ∷ 1 ∷ 1 ∷ 0 ∷ 2 ∷ 0 ∷ 1 ∷ 0 ∷ 0 ∷ 0 ∷ 7 ∷ 1 ∷ 0 ∷ 0 ∷ 1 ∷ 5 ∷ 0 ∷ 2 ∷ 0 ∷ 1 ∷ 0 ∷ 0 ∷ 0 ∷ 7 ∷ 3 ∷ 0 ∷ 0 ∷ 0 ∷ 0 ∷ 0 ∷ 1 ∷ []
+record2 = 65 ∷ 71 ∷ 0 ∷ 35 ∷ 0 ∷ 0 ∷ 0 ∷ 2 ∷ 2 ∷ 0 ∷ 5 ∷ 1 ∷ 1 ∷ 0 ∷ 0 ∷ 2 ∷ 0 ∷ 1 ∷ 0 ∷ 0 ∷ 0 ∷ 7 ∷ 1 ∷ 0 ∷ 0 ∷ 1 ∷ 5 ∷ 0 ∷ 0 ∷ 2 ∷ 0 ∷ 1 ∷ 0 ∷ 0 ∷ 0 ∷ 7 ∷ 3 ∷ 0 ∷ 0 ∷ 0 ∷ 0 ∷ 0 ∷ 1 ∷ []
 
 -- at 3, process 6: true, then out(0, name 7, 41), which wakes process 5
 abbrev pub record3 : Bytes
-record3 = 65 ∷ 71 ∷ 0 ∷ 21 ∷ 0 ∷ 0 ∷ 0 ∷ 3 ∷ 2 ∷ 0 ∷ 6 ∷ 1 ∷ 0 ∷ 1 ∷ 5 ∷ 0 ∷ 2 ∷ 0 ∷ 1 ∷ 0 ∷ 0 ∷ 0 ∷ 7 ∷ 0 ∷ 0 ∷ 0 ∷ 0 ∷ 0 ∷ 41 ∷ []
+record3 = 65 ∷ 71 ∷ 0 ∷ 22 ∷ 0 ∷ 0 ∷ 0 ∷ 3 ∷ 2 ∷ 0 ∷ 6 ∷ 1 ∷ 0 ∷ 1 ∷ 5 ∷ 0 ∷ 0 ∷ 2 ∷ 0 ∷ 1 ∷ 0 ∷ 0 ∷ 0 ∷ 7 ∷ 0 ∷ 0 ∷ 0 ∷ 0 ∷ 0 ∷ 41 ∷ []
 
 -- the reply to record 3, then the woken one to record 2: done, in branch 1, variable 0 is 41
 abbrev pub replies3 : Bytes
@@ -282,7 +282,7 @@ unfolding after replace stop
 stopped-now w one m left = tt
 stopped-now w two m left = tt
 
--- after any cut the replica can restart by the fresh-state call, on a buffer of 24,768 bytes
+-- after any cut the replica can restart by the fresh-state call, on a buffer of 25,312 bytes
 pub fresh-restart-befalls : (w : World) (c : Side) (m : Moment) (left buffer : Bytes) → length buffer ≡ stateSize → Can (afterCut w c m left) (restartFresh c buffer)
 fresh-restart-befalls w c m left buffer e = (stopped-now w c m left, e)
 

@@ -1,25 +1,23 @@
 -- The bytes of a statement with one addition more: those it had, with one count raised, and those of the addition. Assumes nothing.
 use mathlib.Core.Path.{_≡_, refl, sym, ap, _∙_}
-use mathlib.Core.List.{List, [], _∷_, _++_, flatMap, append-assoc, append-nil, List·Memᴰ·head, List·Memᴰ·tail, Memᴰ·append-right}
+use mathlib.Core.List.{List, [], _∷_, _++_, flatMap, append-assoc, append-nil, List·Memᴰ·head, List·Memᴰ·tail}
 use Prim.Native.Nat.{ℕ, _+_, _≤_, _<_}
 use native.Mathlib.Nat.{suc-add}
 use native.Mathlib.Omega.{arith}
 use lib.ListN.{length, take, set, getD, length-append}
 use lib.Seq.{take-set-lt, getD-take, set-append-seam, getD-append-seam, getD-append-add}
-use lib.Dec.{T}
 use Rattle.basis.specs.ListLaws.{Each, each-nil, each-cons, each-append}
 use Rattle.basis.specs.Numbers.{bigEndian}
 use Rattle.basis.specs.NumberLaws.{bigEndian-length, one-byte}
 use Rattle.basis.specs.PadLaws.{flatMap-append}
 use Rattle.basis.specs.Sizes.{hostWidth, processWidth, processes, branchCountAt, branchesAt}
 use Rattle.model.specs.Statement.{Operation, Branch, operations, Statement}
-use Rattle.model.specs.Legal.{legalStatement}
 use Rattle.model.specs.Writing.{countedBytes, operationBytes, branchBytes, statementBytes}
-use Rattle.model.specs.RoundTrip.{FitsOperation, FitsBranch, FitsStatement, legal-fits}
+use Rattle.model.specs.RoundTrip.{FitsOperation, FitsBranch, FitsStatement}
 use Rattle.writer.specs.Writer.{begun, inLast, withOperation, withBranch}
 use Rattle.writer.specs.WriterLaws.{in-last-length}
 use Rattle.parts.specs.Fields.{flatMap-one}
-use Rattle.ends.specs.Counts.{beforeCount, before-more, countAt, legal-some}
+use Rattle.ends.specs.Counts.{beforeCount, before-more, countAt}
 
 -- ---- a byte raised by one
 
@@ -123,10 +121,9 @@ begun-bytes h p g l = rw (one-byte h l) (simp (append-nil))
 
 -- ---- what an addition has to fulfil
 
--- grown statements have room where their parts have, and a legal one has room for its addition
-pub record Grows (grown : Statement → Operation → Statement) : Type 0 where
-  pub fits : (st : Statement) (o : Operation) → FitsStatement st → FitsOperation o → FitsStatement (grown st o)
-  pub has : (st : Statement) (o : Operation) → T (legalStatement (grown st o)) → FitsOperation o
+-- a grown statement has room where its parts have
+abbrev pub Grows : (Statement → Operation → Statement) → Type 0
+Grows grown = (st : Statement) (o : Operation) → FitsStatement st → FitsOperation o → FitsStatement (grown st o)
 
 fits-guard : (g : Operation) → FitsOperation g → FitsBranch (record { guard = g; body = [] })
 unfolding operations
@@ -144,37 +141,15 @@ in-last-fits [] o f h = each-nil _
 in-last-fits (b ∷ []) o f h = each-cons FitsBranch _ [] (fits-more b o (f b (List·Memᴰ·head refl)) h) (each-nil _)
 in-last-fits (b ∷ c ∷ bs) o f h = each-cons FitsBranch b (inLast (c ∷ bs) o) (f b (List·Memᴰ·head refl)) (in-last-fits (c ∷ bs) o (λ x i. f x (List·Memᴰ·tail i)) h)
 
-in-last-has : (b : Branch) (bs : List Branch) (o : Operation) → Each FitsBranch (inLast (b ∷ bs) o) → FitsOperation o
-unfolding inLast operations
-in-last-has b [] o f = f _ (List·Memᴰ·head refl) o (List·Memᴰ·tail (Memᴰ·append-right (b .body) (List·Memᴰ·head refl)))
-in-last-has b (c ∷ bs) o f = in-last-has c bs o (λ x i. f x (List·Memᴰ·tail i))
-
 pub grows-operation : Grows withOperation
 unfolding withOperation
-grows-operation = record {
-  fits = λ st o f h. record { host = f .host; process = f .process; branches = in-last-fits (st .branches) o (f .branches) h };
-  has = λ st o t. has (st .branches) o (legal-some (withOperation st o) t) (legal-fits (withOperation st o) t .branches);
-}
-  where
-    has : (bs : List Branch) (o : Operation) → 1 ≤ length (inLast bs o) → Each FitsBranch (inLast bs o) → FitsOperation o
-    has [] o h f = absurd (omega (arith, in-last-length [] o))
-    has (b ∷ bs) o h f = in-last-has b bs o f
-
-has-guard : (g : Operation) → FitsBranch (record { guard = g; body = [] }) → FitsOperation g
-unfolding operations
-has-guard g f = f g (List·Memᴰ·head refl)
+grows-operation st o f h = record { host = f .host; process = f .process; branches = in-last-fits (st .branches) o (f .branches) h }
 
 pub grows-branch : Grows withBranch
 unfolding withBranch
-grows-branch = record {
-  fits = λ st g f h. record { host = f .host; process = f .process; branches = each-append FitsBranch (st .branches) _ (f .branches) (each-cons FitsBranch _ [] (fits-guard g h) (each-nil _)) };
-  has = λ st g t. has-guard g (legal-fits (withBranch st g) t .branches _ (Memᴰ·append-right (st .branches) (List·Memᴰ·head refl)));
-}
+grows-branch st g f h =
+    record { host = f .host; process = f .process; branches = each-append FitsBranch (st .branches) _ (f .branches) (each-cons FitsBranch _ [] (fits-guard g h) (each-nil _)) }
 
 pub fits-begun : (h p : ℕ) (g : Operation) → h < 256 → p < processes → FitsOperation g → FitsStatement (begun h p g)
 unfolding begun
 fits-begun h p g a b f = record { host = a; process = b; branches = each-cons FitsBranch _ [] (fits-guard g f) (each-nil _) }
-
-pub has-begun : (h p : ℕ) (g : Operation) → T (legalStatement (begun h p g)) → FitsOperation g
-unfolding begun
-has-begun h p g t = has-guard g (legal-fits (begun h p g) t .branches _ (List·Memᴰ·head refl))

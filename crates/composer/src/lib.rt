@@ -4,9 +4,8 @@ ghost use mathlib.Core.Bool.{true};
 ghost use Prim.Native.Nat.{_≤_};
 ghost use lib.ListN.{length, take};
 ghost use Rattle.basis.specs.Choice.{isSome};
-ghost use Rattle.writer.specs.Writer.{held, withOperation, withBranch};
+ghost use Rattle.writer.specs.Writer.{isHanded, held, withOperation, withBranch};
 ghost use Rattle.basis.specs.Sizes.{writerRoom};
-ghost use Rattle.writer.specs.HasBytes.{hasBytes};
 ghost use Rattle.composer.specs.Composed.{Begun, Composed};
 use ends::last_count;
 use parts::put_operation;
@@ -21,7 +20,7 @@ use words::put2;
 
 // Host, process and a branch with this guard and no operation. The count of its bytes.
 pub fn compose_begun(t: &mut [u8], host: u8, process: u16, guard: Operation) -> usize
-    requires { ⌜ (length (now t) ≡ writerRoom) × (hasBytes guard ≡ true) ⌝ }
+    requires { ⌜ (length (now t) ≡ writerRoom) × (isHanded guard ≡ true) ⌝ }
     ensures { λ r. ⌜ (r ≤ writerRoom) × Begun host process guard (take r (now (t .exit))) ⌝ }
 {
     t[HOST_AT] = host;
@@ -34,7 +33,7 @@ pub fn compose_begun(t: &mut [u8], host: u8, process: u16, guard: Operation) -> 
 
 // The filled bytes with an operation more: the last branch's operation count is raised. The count of all bytes.
 pub fn compose_operation(t: &mut [u8], buffer: &[u8], fill: usize, op: Operation) -> usize
-    requires { ⌜ (length (now t) ≡ writerRoom) × (isSome (held (now buffer) fill) ≡ true) × (hasBytes op ≡ true) ⌝ }
+    requires { ⌜ (length (now t) ≡ writerRoom) × (isSome (held (now buffer) fill) ≡ true) × (isHanded op ≡ true) ⌝ }
     ensures { λ r. ⌜ (r ≤ writerRoom) × Composed withOperation (now (buffer .entry)) fill op (take r (now (t .exit))) ⌝ }
 {
     copy_part(t, 0, buffer, 0, fill);
@@ -45,7 +44,7 @@ pub fn compose_operation(t: &mut [u8], buffer: &[u8], fill: usize, op: Operation
 
 // The filled bytes with a branch more: the branch count is raised. The count of all bytes.
 pub fn compose_branch(t: &mut [u8], buffer: &[u8], fill: usize, guard: Operation) -> usize
-    requires { ⌜ (length (now t) ≡ writerRoom) × (isSome (held (now buffer) fill) ≡ true) × (hasBytes guard ≡ true) ⌝ }
+    requires { ⌜ (length (now t) ≡ writerRoom) × (isSome (held (now buffer) fill) ≡ true) × (isHanded guard ≡ true) ⌝ }
     ensures { λ r. ⌜ (r ≤ writerRoom) × Composed withBranch (now (buffer .entry)) fill guard (take r (now (t .exit))) ⌝ }
 {
     copy_part(t, 0, buffer, 0, fill);

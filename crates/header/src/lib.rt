@@ -1,5 +1,5 @@
-// The header of a state, row by row: "`TS`, last position taken (4), hosts-up mask (2, bit h for host h), monitors, next space number (2),
-// counts of spaces, tuples (2), waiting". Only here is it said where a row stands.
+// The header of a state, row by row: "`TS`, last position taken (4), hosts-up mask (2, bit h for host h), monitors, next space number", of
+// four bytes, "counts of spaces, tuples (2), waiting". Only here is it said where a row stands.
 ghost use mathlib.Core.Path.{_≡_};
 ghost use Prim.Native.Nat.{_≤_, _<_};
 ghost use lib.ListN.{length};
@@ -63,7 +63,7 @@ pub fn set_monitors(state: &mut [u8], n: usize)
     words::put_number(state, words::MONITORS_AT, words::COUNT_WIDTH, n as u32);
 }
 
-// "next space number (2)".
+// "The next number takes four bytes in the header".
 pub fn next(state: &[u8]) -> u32
     requires { ⌜ headerSize ≤ length (now state) ⌝ }
     ensures { λ r. ⌜ (r ≡ (decode (now (state .entry))) .next) × (r ≡ numberAt nextAt nextWidth (now (state .entry))) ⌝ }

@@ -54,14 +54,6 @@ operation-step ks code from to fs h = by code h
         rw (le-ltb (suc (suc (suc (suc (suc (suc (suc n))))))) 6 (omega arith), le-ltb (suc (suc (suc (suc (suc (suc (suc n))))))) 5 (omega arith), ne-eqb (suc (suc (suc (suc (suc (suc (suc n))))))) 5 (λ e. omega arith))
         (split (isSpace from && isSpace to && fieldCount 0 fs) (0 ∷ 2 ∷ 5 ∷ []))
 
-pub head-no-space : (code from to n : ℕ) → spaceNumbers ≤ from → false ≡ headLegal code from to n
-unfolding headLegal isSpace
-head-no-space code from to n h = rw (le-ltb from spaceNumbers h) (go (ltb code 6))
-  where
-    go : (a : Bool) → false ≡ cond a false false
-    go true = refl
-    go false = refl
-
 and-true : (a : Bool) → a ≡ (a && true)
 and-true true = refl
 and-true false = refl
@@ -70,9 +62,9 @@ pub head-lookup : (code from to n : ℕ) → from < spaceNumbers → code < 6 �
 unfolding headLegal isSpace
 head-lookup code from to n f c h = rw (lt-ltb from spaceNumbers f, lt-ltb code 6 c, le-leb n mostFields h) (and-true (leb 1 n))
 
-pub head-transfer : (code from to n : ℕ) → from < spaceNumbers → 6 ≤ code → n ≤ mostFields → ltb to spaceNumbers ≡ headLegal code from to n
+pub head-transfer : (code from to n : ℕ) → from < spaceNumbers → to < spaceNumbers → 6 ≤ code → n ≤ mostFields → true ≡ headLegal code from to n
 unfolding headLegal isSpace
-head-transfer code from to n f c h = rw (lt-ltb from spaceNumbers f, le-ltb code 6 c, le-leb 0 n (omega arith), le-leb n mostFields h) (and-true (ltb to spaceNumbers))
+head-transfer code from to n f t c h = rw (lt-ltb from spaceNumbers f, lt-ltb to spaceNumbers t, le-ltb code 6 c, le-leb 0 n (omega arith), le-leb n mostFields h)
 
 -- the fields handed in are as many as counted
 pub fields-length : (count : ℕ) (fields : List Field) → count ≤ length fields → length (fieldsAre (take count fields)) ≡ count

@@ -17,7 +17,6 @@ use statements::Operation;
 use statements::TRUE;
 use statements::TWO_SPACES;
 use statements::read_operation;
-use words::SPACE_NUMBERS;
 use words::VARIABLES;
 
 // The fields of an operation after the kinds that earlier ones bound.
@@ -45,18 +44,16 @@ fn fields_ok(op: Operation, kinds: [u8; VARIABLES]) -> Bound
     }
 }
 
-// The spaces and the field count of an operation: at least one field but in move and copy.
+// The spaces and the field count of an operation: at least one field but in move and copy. Its spaces are space numbers
+// whatever they are.
 fn head_ok(op: Operation) -> bool
     requires { ⌜ op .count ≤ mostFields ⌝ }
     ensures { λ r. ⌜ r ≡ headLegal (op .code) (op .from) (op .to) (op .count) ⌝ }
 {
-    if SPACE_NUMBERS <= op.from as u32 {
-        return false;
-    }
     if op.code < TWO_SPACES {
         return 0 < op.count;
     }
-    (op.to as u32) < SPACE_NUMBERS
+    true
 }
 
 // An operation after the kinds that earlier ones bound, and the kinds after it.

@@ -23,7 +23,7 @@ use Rattle.statements.specs.Operations.{fields-of}
 use Rattle.writer.specs.Writer.{trueCode, twoSpaces}
 use Rattle.parts.specs.Puts.{Puts, puts-byte, puts-over, puts-then, puts-as}
 use Rattle.parts.specs.Fields.{PutFields, fields-most}
-use Rattle.writer.specs.HasBytes.{HasParts}
+use Rattle.writer.specs.HasParts.{HasParts}
 
 -- a field count and fields
 pub record PutCounted (fs : List Field) (before : List ℕ) (at : ℕ) (after : List ℕ) (end : ℕ) : Type 0 where

@@ -10,7 +10,7 @@ ghost use Rattle.model.specs.Value.{value};
 ghost use Rattle.model.specs.Writing.{valueBytes};
 ghost use Rattle.statements.specs.Flat.{forms, hasForm};
 ghost use Rattle.parts.specs.Puts.{Puts};
-ghost use Rattle.writer.specs.HasBytes.{hasBytes};
+ghost use Rattle.writer.specs.Writer.{isHanded};
 ghost use Rattle.parts.specs.Fields.{PutField, PutFields};
 ghost use Rattle.parts.specs.Operations.{PutCounted, PutOperation};
 use statements::Field;
@@ -100,7 +100,7 @@ fn put_counted(t: &mut [u8], at: usize, op: Operation) -> usize
 
 // An operation, from index at on: its code, its spaces, its field count and its fields. The index after it.
 pub fn put_operation(t: &mut [u8], at: usize, op: Operation) -> usize
-    requires { ⌜ (hasBytes op ≡ true) × (at + operationSize ≤ length (now t)) ⌝ }
+    requires { ⌜ (isHanded op ≡ true) × (at + operationSize ≤ length (now t)) ⌝ }
     ensures { λ r. ⌜ PutOperation op (now (t .entry)) at (now (t .exit)) r ⌝ }
 {
     t[at] = op.code;

@@ -79,7 +79,7 @@ fn read_open(body: &[u8]) -> Asked
     Asked::Open(host, words::word2(body, words::PROCESS_AT), kind == 1)
 }
 
-// "`DS` host, process, space byte".
+// "`DS` host, process, space", which has two bytes.
 fn read_close(body: &[u8]) -> Asked
     ensures { λ r. ⌜ (askedIs r ≡ requestOf DS (now (body .entry))) × Within r ⌝ }
 {

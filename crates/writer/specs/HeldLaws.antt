@@ -10,20 +10,18 @@ use lib.Seq.{length-take-le}
 use lib.Dec.{T, leb, leb→le}
 use borrow.Author.Tests.{le-leb, lt-leb}
 use Rattle.basis.specs.Choice.{isSome, provided}
-use Rattle.basis.specs.Logic.{and-l, is-true, true-is}
-use Rattle.basis.specs.Lists.{all}
+use Rattle.basis.specs.Logic.{true-is}
 use Rattle.basis.specs.Sizes.{mostBody}
-use Rattle.model.specs.Statement.{Statement, spacesOf}
-use Rattle.model.specs.Legal.{isSpace, legalStatement, parse, legalBody}
+use Rattle.model.specs.Statement.{Statement}
+use Rattle.model.specs.Legal.{legalStatement, parse, legalBody}
 use Rattle.model.specs.ReadBack.{parse-some}
 use Rattle.statements.specs.declared.Operation.{Operation}
 use Rattle.statements.specs.Flat.{operationIs}
 use Rattle.writer.specs.Writer.{isHanded, handed, held}
-use Rattle.writer.specs.HasBytes.{hasBytes}
 
-pub handed-some : (o : Operation) → hasBytes o ≡ true → handed o ≡ some (operationIs o)
-unfolding hasBytes handed provided
-handed-some o e = rw (is-true (isHanded o) (and-l (isHanded o) (all isSpace (spacesOf (operationIs o))) (true-is (hasBytes o) e)))
+pub handed-some : (o : Operation) → isHanded o ≡ true → handed o ≡ some (operationIs o)
+unfolding handed provided
+handed-some o e = rw e
 
 -- the filled bytes of a legal body
 pub record Held (buffer : List ℕ) (fill : ℕ) (st : Statement) : Type 0 where

@@ -1,4 +1,4 @@
-pub mod HasBytes
+pub mod HasParts
 pub mod HeldLaws
 pub mod Tests
 pub mod Writer

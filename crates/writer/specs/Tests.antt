@@ -2,7 +2,6 @@
 use mathlib.Core.Path.{_≡_, refl, _∙_}
 use mathlib.Core.Bool.{Bool, true, false, _&&_, _||_}
 use mathlib.Core.Option.{some}
-use mathlib.Core.Logic.{_⊎_, inl, inr}
 use mathlib.Core.List.{List, [], _∷_}
 use Prim.Native.Nat.{ℕ, zero, suc, _+_, _≤_, _<_}
 use native.Mathlib.Numerals.{add-one}
@@ -14,17 +13,12 @@ use borrow.Author.Tests.{eq-eqb, ne-eqb, lt-ltb, le-ltb, le-leb, lt-leb}
 use Rattle.basis.specs.Logic.{and-l, and-r, both, or-r, is-true}
 use Rattle.basis.specs.Choice.{provided}
 use Rattle.basis.specs.Lists.{all}
-use Rattle.words.specs.ZeroLaws.{all-append, and-true, and-false}
-use Rattle.basis.specs.Sizes.{mostFields, spaceNumbers}
-use Rattle.model.specs.Statement as model
-use Rattle.model.specs.Statement.{spacesOf}
-use Rattle.model.specs.Legal.{isSpace}
-use Rattle.statements.specs.At.{which}
+use Rattle.words.specs.ZeroLaws.{all-append, and-false}
+use Rattle.basis.specs.Sizes.{mostFields}
 use Rattle.statements.specs.declared.Field.{Field}
 use Rattle.statements.specs.declared.Operation.{Operation}
-use Rattle.statements.specs.Flat.{codes, forms, hasForm, fieldsAre, operationOf, operationIs}
-use Rattle.writer.specs.Writer.{trueCode, twoSpaces, isHanded, handed}
-use Rattle.writer.specs.HasBytes.{hasBytes, spaces-one, spaces-two}
+use Rattle.statements.specs.Flat.{codes, forms, hasForm, operationIs}
+use Rattle.writer.specs.Writer.{trueCode, isHanded, handed}
 
 -- ---- the forms of fields, one by one
 
@@ -80,38 +74,3 @@ module _ (o : Operation) where
       let v : T (leb (o .count) mostFields) = le→leb (o .count) mostFields m in
       let k : T (ltb (o .code) codes && leb (o .count) mostFields && all hasForm (take (o .count) (o .fields))) = search (both, u, v, t) depth 12 in
       rw (is-true (eqb (o .code) trueCode || (ltb (o .code) codes && leb (o .count) mostFields && all hasForm (take (o .count) (o .fields)))) (or-r (eqb (o .code) trueCode) (ltb (o .code) codes && leb (o .count) mostFields && all hasForm (take (o .count) (o .fields))) k))
-
-  -- ---- spaces
-
-  abbrev partFields : List model.Field
-  partFields = fieldsAre (take (o .count) (o .fields))
-
-  pub spaces-true : o .code ≡ trueCode → true ≡ all isSpace (spacesOf (operationIs o))
-  unfolding operationIs operationOf spacesOf all
-  spaces-true z = rw z
-
-  pub spaces-from : (o .code ≡ trueCode → ⊥) → spaceNumbers ≤ o .from → false ≡ all isSpace (spacesOf (operationIs o))
-  unfolding operationIs all isSpace
-  spaces-from n h = go (which twoSpaces (o .code))
-    where
-      go : (twoSpaces ≤ o .code) ⊎ (o .code < twoSpaces) → false ≡ all isSpace (spacesOf (operationOf (o .code) (o .from) (o .to) partFields))
-      go (inl l) = rw (spaces-two (o .code) (o .from) (o .to) partFields l, le-ltb (o .from) spaceNumbers h)
-      go (inr l) = rw (spaces-one (o .code) (o .from) (o .to) partFields (omega (arith, n)) l, le-ltb (o .from) spaceNumbers h)
-
-  pub spaces-single : (o .code ≡ trueCode → ⊥) → o .from < spaceNumbers → o .code < twoSpaces → true ≡ all isSpace (spacesOf (operationIs o))
-  unfolding operationIs all isSpace
-  spaces-single n h l = rw (spaces-one (o .code) (o .from) (o .to) partFields (omega (arith, n)) l, lt-ltb (o .from) spaceNumbers h)
-
-  pub spaces-both : o .from < spaceNumbers → twoSpaces ≤ o .code → ltb (o .to) spaceNumbers ≡ all isSpace (spacesOf (operationIs o))
-  unfolding operationIs all isSpace
-  spaces-both h l = rw (spaces-two (o .code) (o .from) (o .to) partFields l, lt-ltb (o .from) spaceNumbers h, and-true (ltb (o .to) spaceNumbers))
-
-  -- ---- both
-
-  pub no-bytes : isHanded o ≡ false → false ≡ hasBytes o
-  unfolding hasBytes
-  no-bytes e = rw e
-
-  pub some-bytes : (r : Bool) → isHanded o ≡ true → r ≡ all isSpace (spacesOf (operationIs o)) → r ≡ hasBytes o
-  unfolding hasBytes
-  some-bytes r e f = f ∙ rw e

@@ -10,19 +10,19 @@ use Rattle.additions.specs.AdditionLaws.{begin-no, begin-done}
 use Rattle.additions.proofs.begin_at.Statement.{statement}
 use Rattle.additions.proofs.begin_at.Tie as tie
 
-has-bytes-requires : tie.Need-has-bytes-requires
-has-bytes-requires c κs = search needs
+is-handed-requires : tie.Need-is-handed-requires
+is-handed-requires c κs = search needs
 
 returns : tie.Need-returns
 returns c =
     let a = c .before .before .before .args in
-    refused-is 6 (now (a .buffer)) 0 ∙ begin-no (now (a .buffer)) (a .host) (a .process) (a .guard) (sym (c .before .has-bytes .ensures) ∙ not-true _ (c .if1 .taken))
+    refused-is 6 (now (a .buffer)) 0 ∙ begin-no (now (a .buffer)) (a .host) (a .process) (a .guard) (sym (c .before .is-handed .ensures) ∙ not-true _ (c .if1 .taken))
 
 slice-aggregate-compose-begun : tie.Need-slice-aggregate-compose-begun
 slice-aggregate-compose-begun c = search needs
 
 compose-begun-requires : tie.Need-compose-begun-requires
-compose-begun-requires c κs = (refl, sym (c .before .before .has-bytes .ensures) ∙ not-false _ (c .before .if1 .left))
+compose-begun-requires c κs = (refl, sym (c .before .before .is-handed .ensures) ∙ not-false _ (c .before .if1 .left))
 
 array-share-prefix-t : tie.Need-array-share-prefix-t
 array-share-prefix-t c = search needs
@@ -44,13 +44,13 @@ returns-2 c =
     let k = e .before .before .before .before in
     let i = k .before .before in
     let a = i .before .before .before .args in
-    begin-done (now (a .buffer)) (a .host) (a .process) (a .guard) _ _ (sym (i .before .has-bytes .ensures) ∙ not-false _ (i .if1 .left)) (k .compose-begun .ensures .1) (e .settle .ensures)
+    begin-done (now (a .buffer)) (a .host) (a .process) (a .guard) _ _ (sym (i .before .is-handed .ensures) ∙ not-false _ (i .if1 .left)) (k .compose-begun .ensures .1) (e .settle .ensures)
 
 pub begin-at-spec : {M : Type 1} → statement M
 begin-at-spec =
     tie.close
     (tie.spec
-    has-bytes-requires
+    is-handed-requires
     returns
     slice-aggregate-compose-begun
     compose-begun-requires

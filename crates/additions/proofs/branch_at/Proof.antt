@@ -22,10 +22,10 @@ returns : tie.Need-returns
 unfolding addBranch
 returns c =
     let a = c .before .before .before .before .args in
-    refused-is 6 (now (a .buffer)) (a .fill) ∙ add-unheld withBranch grows-branch (now (a .buffer)) (a .fill) (a .guard) (sym (c .before .holds-body .ensures) ∙ not-true _ (c .if1 .taken))
+    refused-is 6 (now (a .buffer)) (a .fill) ∙ add-unheld withBranch (now (a .buffer)) (a .fill) (a .guard) (sym (c .before .holds-body .ensures) ∙ not-true _ (c .if1 .taken))
 
-has-bytes-requires : tie.Need-has-bytes-requires
-has-bytes-requires c κs = search needs
+is-handed-requires : tie.Need-is-handed-requires
+is-handed-requires c κs = search needs
 
 same-length-2 : tie.Need-same-length-2
 same-length-2 c = search needs
@@ -34,7 +34,7 @@ returns-2 : tie.Need-returns-2
 unfolding addBranch
 returns-2 c =
     let a = c .before .before .before .before .before .before .args in
-    refused-is 6 (now (a .buffer)) (a .fill) ∙ add-no withBranch grows-branch (now (a .buffer)) (a .fill) (a .guard) (sym (c .before .has-bytes .ensures) ∙ not-true _ (c .if2 .taken))
+    refused-is 6 (now (a .buffer)) (a .fill) ∙ add-no withBranch (now (a .buffer)) (a .fill) (a .guard) (sym (c .before .is-handed .ensures) ∙ not-true _ (c .if2 .taken))
 
 slice-aggregate-compose-branch : tie.Need-slice-aggregate-compose-branch
 slice-aggregate-compose-branch c = search needs
@@ -43,7 +43,7 @@ compose-branch-requires : tie.Need-compose-branch-requires
 compose-branch-requires c κs =
     let two = c .before .before in
     let one = two .before .before in
-    (refl, sym (one .before .holds-body .ensures) ∙ not-false _ (one .if1 .left), sym (two .before .has-bytes .ensures) ∙ not-false _ (two .if2 .left))
+    (refl, sym (one .before .holds-body .ensures) ∙ not-false _ (one .if1 .left), sym (two .before .is-handed .ensures) ∙ not-false _ (two .if2 .left))
 
 array-share-prefix-t : tie.Need-array-share-prefix-t
 array-share-prefix-t c = search needs
@@ -67,7 +67,7 @@ returns-3 c =
     let two = k .before .before .before in
     let one = two .before .before in
     let a = one .before .before .before .before .args in
-    add-done withBranch grows-branch (now (a .buffer)) (a .fill) (a .guard) _ _ (sym (one .before .holds-body .ensures) ∙ not-false _ (one .if1 .left)) (sym (two .before .has-bytes .ensures) ∙ not-false _ (two .if2 .left)) (k .compose-branch .ensures .1) (e .settle .ensures)
+    add-done withBranch grows-branch (now (a .buffer)) (a .fill) (a .guard) _ _ (sym (one .before .holds-body .ensures) ∙ not-false _ (one .if1 .left)) (sym (two .before .is-handed .ensures) ∙ not-false _ (two .if2 .left)) (k .compose-branch .ensures .1) (e .settle .ensures)
 
 pub branch-at-spec : {M : Type 1} → statement M
 branch-at-spec =
@@ -76,7 +76,7 @@ branch-at-spec =
     holds-body-requires
     same-length
     returns
-    has-bytes-requires
+    is-handed-requires
     same-length-2
     returns-2
     slice-aggregate-compose-branch

@@ -22,10 +22,10 @@ returns : tie.Need-returns
 unfolding addOperation
 returns c =
     let a = c .before .before .before .before .args in
-    refused-is 6 (now (a .buffer)) (a .fill) ∙ add-unheld withOperation grows-operation (now (a .buffer)) (a .fill) (a .operation) (sym (c .before .holds-body .ensures) ∙ not-true _ (c .if1 .taken))
+    refused-is 6 (now (a .buffer)) (a .fill) ∙ add-unheld withOperation (now (a .buffer)) (a .fill) (a .operation) (sym (c .before .holds-body .ensures) ∙ not-true _ (c .if1 .taken))
 
-has-bytes-requires : tie.Need-has-bytes-requires
-has-bytes-requires c κs = search needs
+is-handed-requires : tie.Need-is-handed-requires
+is-handed-requires c κs = search needs
 
 same-length-2 : tie.Need-same-length-2
 same-length-2 c = search needs
@@ -34,7 +34,7 @@ returns-2 : tie.Need-returns-2
 unfolding addOperation
 returns-2 c =
     let a = c .before .before .before .before .before .before .args in
-    refused-is 6 (now (a .buffer)) (a .fill) ∙ add-no withOperation grows-operation (now (a .buffer)) (a .fill) (a .operation) (sym (c .before .has-bytes .ensures) ∙ not-true _ (c .if2 .taken))
+    refused-is 6 (now (a .buffer)) (a .fill) ∙ add-no withOperation (now (a .buffer)) (a .fill) (a .operation) (sym (c .before .is-handed .ensures) ∙ not-true _ (c .if2 .taken))
 
 slice-aggregate-compose-operation : tie.Need-slice-aggregate-compose-operation
 slice-aggregate-compose-operation c = search needs
@@ -43,7 +43,7 @@ compose-operation-requires : tie.Need-compose-operation-requires
 compose-operation-requires c κs =
     let two = c .before .before in
     let one = two .before .before in
-    (refl, sym (one .before .holds-body .ensures) ∙ not-false _ (one .if1 .left), sym (two .before .has-bytes .ensures) ∙ not-false _ (two .if2 .left))
+    (refl, sym (one .before .holds-body .ensures) ∙ not-false _ (one .if1 .left), sym (two .before .is-handed .ensures) ∙ not-false _ (two .if2 .left))
 
 array-share-prefix-t : tie.Need-array-share-prefix-t
 array-share-prefix-t c = search needs
@@ -67,7 +67,7 @@ returns-3 c =
     let two = k .before .before .before in
     let one = two .before .before in
     let a = one .before .before .before .before .args in
-    add-done withOperation grows-operation (now (a .buffer)) (a .fill) (a .operation) _ _ (sym (one .before .holds-body .ensures) ∙ not-false _ (one .if1 .left)) (sym (two .before .has-bytes .ensures) ∙ not-false _ (two .if2 .left)) (k .compose-operation .ensures .1) (e .settle .ensures)
+    add-done withOperation grows-operation (now (a .buffer)) (a .fill) (a .operation) _ _ (sym (one .before .holds-body .ensures) ∙ not-false _ (one .if1 .left)) (sym (two .before .is-handed .ensures) ∙ not-false _ (two .if2 .left)) (k .compose-operation .ensures .1) (e .settle .ensures)
 
 pub operation-at-spec : {M : Type 1} → statement M
 operation-at-spec =
@@ -76,7 +76,7 @@ operation-at-spec =
     holds-body-requires
     same-length
     returns
-    has-bytes-requires
+    is-handed-requires
     same-length-2
     returns-2
     slice-aggregate-compose-operation

@@ -4,7 +4,7 @@ use native.Mathlib.Omega.{arith}
 use lib.ListN.{length, length-set}
 use borrow.Author.Needs.{needs}
 use Rattle.statements.proofs.Room.{six}
-use Rattle.writer.specs.HasBytes.{HasParts, has-parts}
+use Rattle.writer.specs.HasParts.{HasParts, has-parts}
 use Rattle.parts.specs.Operations.{operation-true, operation-one, operation-two}
 use Rattle.parts.proofs.put_operation.Statement.{statement}
 use Rattle.parts.proofs.put_operation.Tie as tie
@@ -18,7 +18,7 @@ module _ (n : tie.After-put-space-number) where
   start = one .before .before .before
 
   parts : HasParts (start .args .op)
-  parts = has-parts (start .args .op) (start .pre .0) (one .if1 .left)
+  parts = has-parts (start .args .op) (start .pre .0) (search needs) (search needs) (one .if1 .left)
 
   same : length (n .put-space-number .last .0) ≡ length (start .args .t .now)
   same = simp length-set at (n .put-space-number .kept .0)
