@@ -2,17 +2,43 @@
 
 use crate::run::{Reply, Run, Space, Tuple, Waiting};
 use crate::run::{MOST_MONITORS, MOST_SPACES, MOST_TUPLES, MOST_WAITING, NUMBERS_USED_UP};
-use crate::statement;
+use crate::statement::{self, SpaceNumber, MOST_FIELDS};
 use crate::value::Value;
 
-pub const STATE_BYTES: usize = 24_768;
-pub const SPACES_AT: usize = 64;
-pub const SPACE_BYTES: usize = 4;
-pub const TUPLES_AT: usize = SPACES_AT + 32 * SPACE_BYTES;
-pub const TUPLE_BYTES: usize = 32;
-pub const WAITING_AT: usize = TUPLES_AT + 512 * TUPLE_BYTES;
-pub const WAITING_BYTES: usize = 256;
+pub const STATE_BYTES: usize = 25_312;
 pub const REPLY_BYTES: usize = 3_564;
+
+// The header: the mark, then these.
+pub const LAST_AT: usize = 2;
+pub const HOSTS_AT: usize = LAST_AT + 4;
+pub const MONITORS_AT: usize = HOSTS_AT + 2;
+pub const NEXT_AT: usize = MONITORS_AT + 1;
+pub const SPACE_COUNT_AT: usize = NEXT_AT + 4;
+pub const TUPLE_COUNT_AT: usize = SPACE_COUNT_AT + 1;
+pub const WAITING_COUNT_AT: usize = TUPLE_COUNT_AT + 2;
+pub const HEADER_USED: usize = WAITING_COUNT_AT + 1;
+
+// A space entry: the number, then these.
+pub const KIND_AT: usize = size_of::<SpaceNumber>();
+pub const OWNER_AT: usize = KIND_AT + 1;
+pub const SPACE_BYTES: usize = OWNER_AT + 2;
+
+// A tuple: the space, then these.
+pub const FIELD_COUNT_AT: usize = size_of::<SpaceNumber>();
+pub const VALUES_AT: usize = FIELD_COUNT_AT + 1;
+pub const VALUE_BYTES: usize = 5;
+pub const TUPLE_BYTES: usize = VALUES_AT + MOST_FIELDS * VALUE_BYTES;
+
+// A waiting entry: the position, then these.
+pub const LENGTH_AT: usize = 4;
+pub const BODY_AT: usize = LENGTH_AT + 2;
+pub const WAITING_BYTES: usize = 256;
+
+// The sections.
+pub const SPACES_AT: usize = 64;
+pub const TUPLES_AT: usize = SPACES_AT + MOST_SPACES * SPACE_BYTES;
+pub const WAITING_AT: usize = TUPLES_AT + MOST_TUPLES * TUPLE_BYTES;
+const _: () = assert!(WAITING_AT + MOST_WAITING * WAITING_BYTES == STATE_BYTES);
 
 // ---- Writing ----
 
@@ -24,8 +50,16 @@ fn mask(up: &[bool; 16]) -> u16 {
     (0..16).map(|host| u16::from(up[host]) << host).sum()
 }
 
+fn space_bytes(space: &Space) -> Vec<u8> {
+    let mut bytes = space.number.to_be_bytes().to_vec();
+    bytes.push(u8::from(space.private));
+    bytes.extend(space.owner.to_be_bytes());
+    bytes
+}
+
 fn tuple_bytes(tuple: &Tuple) -> Vec<u8> {
-    let mut bytes = vec![tuple.space, tuple.values.len() as u8];
+    let mut bytes = tuple.space.to_be_bytes().to_vec();
+    bytes.push(tuple.values.len() as u8);
     for value in &tuple.values {
         bytes.push(value.kind);
         bytes.extend(value.bytes);
@@ -41,26 +75,23 @@ fn waiting_bytes(entry: &Waiting) -> Vec<u8> {
     bytes
 }
 
-fn header_bytes(run: &Run) -> Vec<u8> {
-    let mut bytes = b"TS".to_vec();
-    bytes.extend(run.last.to_be_bytes());
-    bytes.extend(mask(&run.up).to_be_bytes());
-    bytes.push(run.monitors);
-    bytes.extend(run.next.to_be_bytes());
-    bytes.push(run.spaces.len() as u8);
-    bytes.extend((run.tuples.len() as u16).to_be_bytes());
-    bytes.push(run.waiting.len() as u8);
-    bytes
+fn put_header(bytes: &mut [u8], run: &Run) {
+    put(bytes, 0, b"TS");
+    put(bytes, LAST_AT, &run.last.to_be_bytes());
+    put(bytes, HOSTS_AT, &mask(&run.up).to_be_bytes());
+    put(bytes, MONITORS_AT, &[run.monitors]);
+    put(bytes, NEXT_AT, &run.next.to_be_bytes());
+    put(bytes, SPACE_COUNT_AT, &[run.spaces.len() as u8]);
+    put(bytes, TUPLE_COUNT_AT, &(run.tuples.len() as u16).to_be_bytes());
+    put(bytes, WAITING_COUNT_AT, &[run.waiting.len() as u8]);
 }
 
-/// The 24,768 bytes of a run within the limits.
+/// The 25,312 bytes of a run within the limits.
 pub fn encode(run: &Run) -> Vec<u8> {
     let mut bytes = vec![0; STATE_BYTES];
-    put(&mut bytes, 0, &header_bytes(run));
+    put_header(&mut bytes, run);
     for (i, space) in run.spaces.iter().enumerate() {
-        let owner = space.owner.to_be_bytes();
-        let entry = [space.number, u8::from(space.private), owner[0], owner[1]];
-        put(&mut bytes, SPACES_AT + i * SPACE_BYTES, &entry);
+        put(&mut bytes, SPACES_AT + i * SPACE_BYTES, &space_bytes(space));
     }
     for (i, tuple) in run.tuples.iter().enumerate() {
         put(&mut bytes, TUPLES_AT + i * TUPLE_BYTES, &tuple_bytes(tuple));
@@ -100,8 +131,8 @@ fn read_value(bytes: &[u8]) -> Option<Value> {
 }
 
 fn read_space(bytes: &[u8]) -> Option<Space> {
-    let (number, owner) = (bytes[0], number2(bytes, 2));
-    match bytes[1] {
+    let (number, owner) = (number2(bytes, 0), number2(bytes, OWNER_AT));
+    match bytes[KIND_AT] {
         0 => Some(Space { number, private: false, owner }),
         1 => Some(Space { number, private: true, owner }),
         _ => None,
@@ -109,17 +140,18 @@ fn read_space(bytes: &[u8]) -> Option<Space> {
 }
 
 fn read_tuple(bytes: &[u8]) -> Option<Tuple> {
-    let count = usize::from(bytes[1]);
-    if !(1..=6).contains(&count) {
+    let count = usize::from(bytes[FIELD_COUNT_AT]);
+    if !(1..=MOST_FIELDS).contains(&count) {
         return None;
     }
-    let values: Option<Vec<Value>> = (0..count).map(|i| read_value(&bytes[2 + 5 * i..])).collect();
-    Some(Tuple { space: bytes[0], values: values? })
+    let values: Option<Vec<Value>> =
+        bytes[VALUES_AT..].chunks(VALUE_BYTES).take(count).map(read_value).collect();
+    Some(Tuple { space: number2(bytes, 0), values: values? })
 }
 
 fn read_waiting(bytes: &[u8]) -> Option<Waiting> {
-    let length = usize::from(number2(bytes, 4));
-    let body = bytes[6..].get(..length)?;
+    let length = usize::from(number2(bytes, LENGTH_AT));
+    let body = bytes[BODY_AT..].get(..length)?;
     Some(Waiting { position: number4(bytes, 0), statement: statement::read(body)? })
 }
 
@@ -141,13 +173,15 @@ fn decode(bytes: &[u8]) -> Option<Run> {
     if bytes.len() != STATE_BYTES || bytes[..2] != *b"TS" {
         return None;
     }
-    let hosts = number2(bytes, 6);
-    let (spaces, tuples, waiting) = (bytes[11].into(), number2(bytes, 12).into(), bytes[14].into());
+    let hosts = number2(bytes, HOSTS_AT);
+    let spaces = bytes[SPACE_COUNT_AT].into();
+    let tuples = number2(bytes, TUPLE_COUNT_AT).into();
+    let waiting = bytes[WAITING_COUNT_AT].into();
     Some(Run {
-        last: number4(bytes, 2),
+        last: number4(bytes, LAST_AT),
         up: std::array::from_fn(|host| hosts >> host & 1 == 1),
-        monitors: bytes[8],
-        next: number2(bytes, 9),
+        monitors: bytes[MONITORS_AT],
+        next: number4(bytes, NEXT_AT),
         spaces: read_section(&bytes[SPACES_AT..TUPLES_AT], SPACE_BYTES, spaces, read_space)?,
         tuples: read_section(&bytes[TUPLES_AT..WAITING_AT], TUPLE_BYTES, tuples, read_tuple)?,
         waiting: read_section(&bytes[WAITING_AT..], WAITING_BYTES, waiting, read_waiting)?,
@@ -160,7 +194,7 @@ fn spaces_are_sound(run: &Run) -> bool {
     let zero = Space { number: 0, private: false, owner: 0 };
     run.spaces.first() == Some(&zero)
         && run.spaces.windows(2).all(|pair| pair[0].number < pair[1].number)
-        && run.spaces.iter().all(|space| u16::from(space.number) < run.next)
+        && run.spaces.iter().all(|space| u32::from(space.number) < run.next)
         && run.spaces.iter().all(|space| space.private || space.owner == 0)
 }
 

@@ -1,6 +1,6 @@
 //! The one-by-one run on plain lists: one step for each record taken.
 
-use crate::statement::{self, Field, Operation, Statement};
+use crate::statement::{self, Field, Operation, SpaceNumber, Statement};
 use crate::statement::{COPY, IN, INP, MOVE, OUT, RD, RDP, TRUE};
 use crate::value::{name, whole, Value};
 
@@ -8,12 +8,12 @@ pub const MOST_SPACES: usize = 32;
 pub const MOST_TUPLES: usize = 512;
 pub const MOST_WAITING: usize = 32;
 pub const MOST_MONITORS: u8 = 8;
-/// The next space number once 1 to 255 are used up.
-pub const NUMBERS_USED_UP: u16 = 256;
+/// The next space number once 1 to 65,535 are used up.
+pub const NUMBERS_USED_UP: u32 = 65_536;
 
 #[derive(Clone, PartialEq, Eq, Debug)]
 pub struct Space {
-    pub number: u8,
+    pub number: SpaceNumber,
     pub private: bool,
     /// 0 where the space is shared.
     pub owner: u16,
@@ -21,7 +21,7 @@ pub struct Space {
 
 #[derive(Clone, PartialEq, Eq, Debug)]
 pub struct Tuple {
-    pub space: u8,
+    pub space: SpaceNumber,
     pub values: Vec<Value>,
 }
 
@@ -36,7 +36,7 @@ pub struct Run {
     pub last: u32,
     pub up: [bool; 16],
     pub monitors: u8,
-    pub next: u16,
+    pub next: u32,
     pub spaces: Vec<Space>,
     pub tuples: Vec<Tuple>,
     pub waiting: Vec<Waiting>,
@@ -78,7 +78,7 @@ pub enum Request {
     Crash { host: u8 },
     Monitor { host: u8, process: u16 },
     Make { host: u8, process: u16, private: bool },
-    Destroy { host: u8, process: u16, space: u8 },
+    Destroy { host: u8, process: u16, space: SpaceNumber },
     Guarded(Statement),
 }
 
@@ -100,7 +100,10 @@ pub fn read_request(mark: Mark, body: &[u8]) -> Option<Request> {
         (Mark::Ms, &[a, b, kind @ (0 | 1)]) => {
             Some(Request::Make { host, process: process(a, b), private: kind == 1 })
         }
-        (Mark::Ds, &[a, b, space]) => Some(Request::Destroy { host, process: process(a, b), space }),
+        (Mark::Ds, &[a, b, high, low]) => {
+            let space = SpaceNumber::from_be_bytes([high, low]);
+            Some(Request::Destroy { host, process: process(a, b), space })
+        }
         _ => None,
     }
 }
@@ -129,7 +132,7 @@ impl Request {
     }
 
     /// The spaces it names, each of which must be open to its process.
-    fn spaces(&self) -> Vec<u8> {
+    fn spaces(&self) -> Vec<SpaceNumber> {
         match self {
             Request::Destroy { space, .. } => vec![*space],
             Request::Guarded(statement) => statement.spaces(),
@@ -277,12 +280,12 @@ impl Run {
         self.up.iter().filter(|up| **up).count()
     }
 
-    pub fn space(&self, number: u8) -> Option<&Space> {
+    pub fn space(&self, number: SpaceNumber) -> Option<&Space> {
         self.spaces.iter().find(|space| space.number == number)
     }
 
     /// Open, and shared or the process's own.
-    pub fn is_open_to(&self, number: u8, process: u16) -> bool {
+    pub fn is_open_to(&self, number: SpaceNumber, process: u16) -> bool {
         self.space(number).is_some_and(|space| !space.private || space.owner == process)
     }
 
@@ -297,7 +300,7 @@ impl Run {
         let recover = matches!(request, Request::Recover { .. });
         let process = request.process();
         let spaces = request.spaces();
-        let open_to = |space: &u8| process.is_some_and(|process| self.is_open_to(*space, process));
+        let open_to = |space: &SpaceNumber| process.is_some_and(|process| self.is_open_to(*space, process));
         if !recover && !up {
             Some(7)
         } else if recover && up {
@@ -316,7 +319,7 @@ impl Run {
     /// 12 for CR, 14 for MO and MS, 15 for DS.
     fn check_limits(&self, request: &Request) -> Option<u8> {
         let used_up = self.spaces.len() >= MOST_SPACES || self.next >= NUMBERS_USED_UP;
-        let named = |space: u8| self.waiting.iter().any(|w| w.statement.spaces().contains(&space));
+        let named = |space: SpaceNumber| self.waiting.iter().any(|w| w.statement.spaces().contains(&space));
         let crowded = self.tuples.len() + usize::from(self.monitors) > MOST_TUPLES;
         match request {
             Request::Crash { .. } if crowded => Some(12),
@@ -389,10 +392,11 @@ impl Run {
         }
     }
 
+    /// The next number is at most 65,535 here, by check 14.
     fn make(&mut self, process: u16, private: bool) -> i32 {
-        let number = self.next;
+        let number = self.next as SpaceNumber;
         let owner = if private { process } else { 0 };
-        self.spaces.push(Space { number: number as u8, private, owner });
+        self.spaces.push(Space { number, private, owner });
         self.next += 1;
         i32::from(number)
     }

@@ -11,6 +11,9 @@ pub const OUT: u8 = 5;
 pub const MOVE: u8 = 6;
 pub const COPY: u8 = 7;
 
+/// Two bytes wherever it is written.
+pub type SpaceNumber = u16;
+
 pub const MOST_BYTES: usize = 250;
 pub const MOST_BRANCHES: usize = 4;
 pub const MOST_OPERATIONS: usize = 8;
@@ -33,7 +36,7 @@ pub struct Branch {
 #[derive(Clone, PartialEq, Eq, Debug)]
 pub struct Operation {
     pub code: u8,
-    pub spaces: Vec<u8>,
+    pub spaces: Vec<SpaceNumber>,
     pub fields: Vec<Field>,
 }
 
@@ -73,6 +76,14 @@ impl Rest<'_> {
         Some(*first)
     }
 
+    fn process(&mut self) -> Option<u16> {
+        Some(u16::from_be_bytes([self.byte()?, self.byte()?]))
+    }
+
+    fn space(&mut self) -> Option<SpaceNumber> {
+        Some(SpaceNumber::from_be_bytes([self.byte()?, self.byte()?]))
+    }
+
     fn value(&mut self) -> Option<Value> {
         let kind = self.byte()?;
         let bytes = [self.byte()?, self.byte()?, self.byte()?, self.byte()?];
@@ -98,7 +109,7 @@ impl Rest<'_> {
             return Some(operation);
         }
         for _ in 0..space_count(code)? {
-            operation.spaces.push(self.byte()?);
+            operation.spaces.push(self.space()?);
         }
         for _ in 0..self.byte()? {
             operation.fields.push(self.field()?);
@@ -127,14 +138,18 @@ fn space_count(code: u8) -> Option<usize> {
 
 /// Reads a legal AG body; None where the body is malformed.
 pub fn read(body: &[u8]) -> Option<Statement> {
+    parts(body).filter(is_legal)
+}
+
+/// The parts of a body that ends where they do, legal or not.
+pub fn parts(body: &[u8]) -> Option<Statement> {
     let mut rest = Rest(body);
-    let host = rest.byte()?;
-    let process = u16::from_be_bytes([rest.byte()?, rest.byte()?]);
+    let (host, process) = (rest.byte()?, rest.process()?);
     let mut statement = Statement { host, process, branches: Vec::new() };
     for _ in 0..rest.byte()? {
         statement.branches.push(rest.branch()?);
     }
-    (rest.0.is_empty() && is_legal(&statement)).then_some(statement)
+    rest.0.is_empty().then_some(statement)
 }
 
 // ---- Writing ----
@@ -163,7 +178,7 @@ fn write_operation(operation: &Operation, bytes: &mut Vec<u8>) {
     if operation.code == TRUE {
         return;
     }
-    bytes.extend(&operation.spaces);
+    bytes.extend(operation.spaces.iter().flat_map(|space| space.to_be_bytes()));
     bytes.push(operation.fields.len() as u8);
     for field in &operation.fields {
         write_field(field, bytes);
@@ -189,10 +204,14 @@ pub fn write(statement: &Statement) -> Vec<u8> {
 
 /// Every limit and rule of "The stream" on a statement.
 pub fn is_legal(statement: &Statement) -> bool {
+    is_legal_at_any_length(statement) && write(statement).len() <= MOST_BYTES
+}
+
+/// Every limit and rule but that of 250 bytes.
+pub fn is_legal_at_any_length(statement: &Statement) -> bool {
     statement.host <= 15
         && (1..=MOST_BRANCHES).contains(&statement.branches.len())
         && statement.branches.iter().all(branch_is_legal)
-        && write(statement).len() <= MOST_BYTES
 }
 
 fn branch_is_legal(branch: &Branch) -> bool {
@@ -257,7 +276,7 @@ impl Branch {
 
 impl Statement {
     /// The spaces that any operation of any branch names.
-    pub fn spaces(&self) -> Vec<u8> {
+    pub fn spaces(&self) -> Vec<SpaceNumber> {
         let mut named = Vec::new();
         for operation in self.branches.iter().flat_map(Branch::operations) {
             named.extend(&operation.spaces);

@@ -1,6 +1,6 @@
 //! The writer: makes an AG body in a lent buffer, one addition at a time.
 
-use crate::statement::{self, Branch, Field, Operation, Statement};
+use crate::statement::{self, Branch, Field, Operation, SpaceNumber, Statement};
 use crate::value::Value;
 
 /// A field handed in. Parts that its form does not have are not looked at.
@@ -12,11 +12,11 @@ pub struct Part {
     pub value: [u8; 4],
 }
 
-/// An operation handed in; a space above 255 or a wrong count of spaces is a breach.
+/// An operation handed in; a wrong count of spaces is a breach.
 #[derive(Clone, PartialEq, Eq, Debug, Default)]
 pub struct Addition {
     pub code: u8,
-    pub spaces: Vec<u16>,
+    pub spaces: Vec<SpaceNumber>,
     pub fields: Vec<Part>,
 }
 
@@ -38,9 +38,8 @@ fn field(part: &Part) -> Option<Field> {
 }
 
 fn operation(addition: &Addition) -> Option<Operation> {
-    let spaces: Option<Vec<u8>> = addition.spaces.iter().map(|s| u8::try_from(*s).ok()).collect();
     let fields: Option<Vec<Field>> = addition.fields.iter().map(field).collect();
-    Some(Operation { code: addition.code, spaces: spaces?, fields: fields? })
+    Some(Operation { code: addition.code, spaces: addition.spaces.clone(), fields: fields? })
 }
 
 /// Writes the statement if it is legal and fits; `fill` is kept where it is refused.

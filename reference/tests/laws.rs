@@ -1,4 +1,4 @@
-//! What must hold for every call by document 01, over generated streams.
+//! What must hold for every call by documents 01 and 02, over generated streams.
 
 use reference::call::{fresh, split, take};
 use reference::generate::rng::Rng;
@@ -27,7 +27,7 @@ fn fresh_is_a_state() {
     assert!(is_state(&state));
     assert_eq!(read_state(&state), Some(Run::fresh()));
     let mut by_hand = vec![0; STATE_BYTES];
-    by_hand[..15].copy_from_slice(b"TS\0\0\0\0\0\0\0\0\x01\x01\0\0\0");
+    by_hand[..17].copy_from_slice(b"TS\0\0\0\0\0\0\0\0\0\0\x01\x01\0\0\0");
     assert!(state == by_hand);
 }
 
@@ -195,17 +195,57 @@ fn every_statement_that_leaves_the_queue_is_answered_or_its_host_crashed() {
     });
 }
 
+// ---- Space numbers ----
+
+/// MS gives the next number, which steps on, or is 14; nothing else moves that number.
+#[test]
+fn each_number_is_given_once() {
+    each_step(34, 210, 15, |step| {
+        let (true, Some(before), Some(after)) =
+            (step.is_taken(), read_state(&step.before), read_state(&step.after))
+        else {
+            return;
+        };
+        if &step.record[..2] != b"MS" || ![0, 14].contains(&step.replies()[9]) {
+            assert_eq!(after.next, before.next);
+            return;
+        }
+        let used_up = before.spaces.len() == 32 || before.next == 65_536;
+        assert_eq!(step.replies()[9] == 14, used_up);
+        if !used_up {
+            assert_eq!(step.replies()[14..18], before.next.to_be_bytes());
+            assert_eq!(u32::from(after.spaces[before.spaces.len()].number), before.next);
+            assert_eq!(after.next, before.next + 1);
+        }
+    });
+}
+
+/// Records in order from the fresh state on, across 255 and up to the last number.
+#[test]
+fn a_stream_from_the_fresh_state_opens_late_spaces() {
+    for (next, most) in [(250, 65_535), (65_530, 65_536)] {
+        let (mut stream, records) = Stream::from_fresh_at(35, 3, next);
+        let mut run = Run::fresh();
+        for record in records.into_iter().chain((0..300).map(|_| stream.feed())) {
+            let (mark, position, body) = split(&record).expect("a record");
+            run.step(position, mark, body);
+        }
+        assert!(run.next > next + 5 && run.next <= most);
+        assert_eq!(read_state(&encode(&run)), Some(run));
+    }
+}
+
 // ---- The state buffer ----
 
 /// The bytes in use, by the counts of the header.
 fn in_use(state: &[u8]) -> Vec<bool> {
     let mut used = vec![false; STATE_BYTES];
-    used[..15].fill(true);
-    used[64..64 + 4 * usize::from(state[11])].fill(true);
-    for at in (0..usize::from(state[12]) * 256 + usize::from(state[13])).map(|i| 192 + 32 * i) {
-        used[at..at + 2 + 5 * usize::from(state[at + 1])].fill(true);
+    used[..17].fill(true);
+    used[64..64 + 5 * usize::from(state[13])].fill(true);
+    for at in (0..usize::from(state[14]) * 256 + usize::from(state[15])).map(|i| 224 + 33 * i) {
+        used[at..at + 3 + 5 * usize::from(state[at + 2])].fill(true);
     }
-    for at in (0..usize::from(state[14])).map(|i| 16_576 + 256 * i) {
+    for at in (0..usize::from(state[16])).map(|i| 17_120 + 256 * i) {
         let length = usize::from(state[at + 4]) * 256 + usize::from(state[at + 5]);
         used[at..at + 6 + length].fill(true);
     }
@@ -326,8 +366,8 @@ fn part(field: &Field) -> Part {
 }
 
 fn addition(operation: &Operation) -> Addition {
-    let spaces = operation.spaces.iter().map(|space| u16::from(*space)).collect();
-    Addition { code: operation.code, spaces, fields: operation.fields.iter().map(part).collect() }
+    let fields = operation.fields.iter().map(part).collect();
+    Addition { code: operation.code, spaces: operation.spaces.clone(), fields }
 }
 
 /// Makes the statement by additions; each must leave a legal body, and no byte past it changed.
@@ -384,23 +424,40 @@ fn the_writer_refuses_6_then_2() {
     assert_eq!(writer::begin(&mut small, 16, 5, &guard), (6, 0));
     assert_eq!(writer::begin(&mut small, 2, 5, &guard), (2, 0));
     assert_eq!(small, [7; 5]);
-    let mut buffer = vec![7; 15];
+    let mut buffer = vec![7; 16];
     assert_eq!(writer::begin(&mut buffer, 2, 5, &guard), (0, 6));
-    assert_eq!(buffer, [2, 0, 5, 1, 0, 0, 7, 7, 7, 7, 7, 7, 7, 7, 7]);
+    assert_eq!(buffer, [2, 0, 5, 1, 0, 0, 7, 7, 7, 7, 7, 7, 7, 7, 7, 7]);
     let given = Part { form: 0, kind: 0, variable: 0, value: [0, 0, 0, 9] };
     let out = |space| Addition { code: 5, spaces: vec![space], fields: vec![given.clone()] };
-    assert_eq!(writer::add_operation(&mut buffer, 6, &out(256)), (6, 6));
+    let nowhere = Addition { spaces: vec![], ..out(0) };
+    assert_eq!(writer::add_operation(&mut buffer, 6, &nowhere), (6, 6));
+    let twice = Addition { spaces: vec![0, 256], ..out(0) };
+    assert_eq!(writer::add_operation(&mut buffer, 6, &twice), (6, 6));
     assert_eq!(writer::add_branch(&mut buffer, 6, &out(0)), (6, 6));
     let unbound = Addition { fields: vec![Part { form: 2, ..Part::default() }], ..out(0) };
     assert_eq!(writer::add_operation(&mut buffer, 6, &unbound), (6, 6));
-    assert_eq!(writer::add_operation(&mut buffer, 6, &out(3)), (0, 15));
-    assert_eq!(buffer, [2, 0, 5, 1, 0, 1, 5, 3, 1, 0, 0, 0, 0, 0, 9]);
+    assert_eq!(writer::add_operation(&mut buffer, 6, &out(0x0302)), (0, 16));
+    assert_eq!(buffer, [2, 0, 5, 1, 0, 1, 5, 3, 2, 1, 0, 0, 0, 0, 0, 9]);
     let full = buffer.clone();
-    assert_eq!(writer::add_operation(&mut buffer, 15, &out(3)), (2, 15));
-    assert_eq!(writer::add_branch(&mut buffer, 15, &guard), (2, 15));
-    assert_eq!(writer::add_operation(&mut buffer, 14, &out(3)), (6, 14));
-    assert_eq!(writer::add_operation(&mut buffer, 16, &out(3)), (6, 16));
+    assert_eq!(writer::add_operation(&mut buffer, 16, &out(3)), (2, 16));
+    assert_eq!(writer::add_branch(&mut buffer, 16, &guard), (2, 16));
+    assert_eq!(writer::add_operation(&mut buffer, 15, &out(3)), (6, 15));
+    assert_eq!(writer::add_operation(&mut buffer, 17, &out(3)), (6, 17));
     assert_eq!(buffer, full);
+}
+
+/// Every number that can be handed in is written in its two bytes, at either end of a move.
+#[test]
+fn the_writer_takes_every_space_number() {
+    let mut buffer = vec![7; 12];
+    assert_eq!(writer::begin(&mut buffer, 2, 5, &Addition::default()), (0, 6));
+    for number in 0..=65_535_u16 {
+        let mut longer = buffer.clone();
+        let ends = Addition { code: 6, spaces: vec![number, !number], fields: vec![] };
+        assert_eq!(writer::add_operation(&mut longer, 6, &ends), (0, 12));
+        let (high, low) = ((number / 256) as u8, (number % 256) as u8);
+        assert_eq!(longer, [2, 0, 5, 1, 0, 1, 6, high, low, 255 - high, 255 - low, 0]);
+    }
 }
 
 #[test]
@@ -411,7 +468,7 @@ fn the_writer_stops_at_8_operations_4_branches_and_250_bytes() {
     for branch in 1..=4 {
         for _ in 0..8 {
             let written = writer::add_operation(&mut buffer, fill, &all);
-            assert_eq!(written, (0, fill + 4));
+            assert_eq!(written, (0, fill + 6));
             fill = written.1;
         }
         assert_eq!(writer::add_operation(&mut buffer, fill, &all), (6, fill));
@@ -425,6 +482,6 @@ fn the_writer_stops_at_8_operations_4_branches_and_250_bytes() {
     for _ in 0..6 {
         fill = writer::add_operation(&mut buffer, fill, &long).1;
     }
-    assert_eq!(fill, 240);
-    assert_eq!(writer::add_operation(&mut buffer, fill, &long), (6, 240));
+    assert_eq!(fill, 246);
+    assert_eq!(writer::add_operation(&mut buffer, fill, &long), (6, 246));
 }

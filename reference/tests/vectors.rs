@@ -51,7 +51,7 @@ fn vectors_replay() {
     let mut calls = 0;
     for line in text.lines() {
         if line.starts_with("stream ") {
-            state = vec![0; 24_768];
+            state = vec![0; 25_312];
             fresh(&mut state);
         } else {
             replay(line, &mut state);

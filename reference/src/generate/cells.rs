@@ -13,7 +13,7 @@ const OWN: [(&str, &[u8]); 6] = [
 ];
 
 /// What else must occur.
-const CELLS: [&str; 108] = [
+const CELLS: [&str; 107] = [
     "AG waits",
     "woken 0",
     "woken 12",
@@ -60,7 +60,6 @@ const CELLS: [&str; 108] = [
     "32 spaces",
     "32 waiting",
     "8 monitors",
-    "next number 256",
     "last position",
     "reply of 3564 bytes",
     "reply buffer 0 refused 2",
@@ -75,7 +74,7 @@ const CELLS: [&str; 108] = [
     "refused 1 state waiting",
     "refused 1 state waiting entry",
     "refused 1 state monitors over 8",
-    "refused 1 state next number over 256",
+    "refused 1 state next number over 65536",
     "refused 1 state space not below next",
     "refused 1 state tuple in closed space",
     "refused 1 state field count",
@@ -124,6 +123,94 @@ const CELLS: [&str; 108] = [
     "malformed no field",
 ];
 
+/// What must occur of space numbers of two bytes and of bodies near the limit.
+const NUMBERS: [&str; 84] = [
+    "31 spaces over 255",
+    "space 65535 open",
+    "next number 65535",
+    "next number 65536",
+    "spaces far apart",
+    "spaces with falling low bytes",
+    "spaces of one low byte",
+    "spaces of one high byte",
+    "spaces of swapped bytes",
+    "space with low byte 0",
+    "private space with low byte 0",
+    "MS gives 255",
+    "MS gives 256",
+    "MS gives 65535",
+    "MS 14 with 65535 open",
+    "MS 14 with 65535 closed",
+    "DS 6 of 4 bytes",
+    "DS 6 of 6 bytes",
+    "DS 0 over 255",
+    "DS 0 of 65535",
+    "DS 0 of low byte 0",
+    "DS 0 beside tuples of its high byte",
+    "DS 0 beside tuples of its low byte",
+    "DS 0 beside a named high byte",
+    "DS 0 beside a named low byte",
+    "DS 10 at an open high byte",
+    "DS 10 at an open low byte",
+    "DS 11 over 255",
+    "DS 15 over 255",
+    "DS 15 guard alone",
+    "DS 15 body alone",
+    "DS 15 from alone",
+    "DS 15 to alone",
+    "AG 10 guard",
+    "AG 10 body",
+    "AG 10 from",
+    "AG 10 to",
+    "AG 10 at an open high byte",
+    "AG 10 at an open low byte",
+    "AG 10 at open swapped bytes",
+    "AG 11 guard",
+    "AG 11 body",
+    "AG 11 from",
+    "AG 11 to",
+    "AG 11 at an open high byte",
+    "AG 11 at an open low byte",
+    "AG 0 over 255",
+    "AG 0 in 65535",
+    "woken over 255",
+    "guard finds one past its high byte",
+    "guard finds one past its low byte",
+    "guard finds none past its high byte",
+    "guard finds none past its low byte",
+    "move across one high byte",
+    "move across one low byte",
+    "move beside tuples of its high byte",
+    "move beside tuples of its low byte",
+    "copy across one high byte",
+    "copy across one low byte",
+    "copy beside tuples of its high byte",
+    "copy beside tuples of its low byte",
+    "AG of 249 bytes",
+    "AG of 250 bytes",
+    "AG of 250 bytes waits",
+    "malformed by one byte",
+    "malformed by its spaces",
+    "refused 1 state next number 0",
+    "refused 1 state next number byte 1",
+    "refused 1 state next number byte 2",
+    "refused 1 state next number byte 3",
+    "refused 1 state next number byte 4",
+    "taken state next number byte 3",
+    "taken state next number byte 4",
+    "refused 1 state count of spaces",
+    "refused 1 state count of tuples byte 1",
+    "refused 1 state count of tuples byte 2",
+    "refused 1 state count of waiting",
+    "refused 1 state space number byte 1",
+    "refused 1 state space number byte 2",
+    "refused 1 state tuple's space byte 1",
+    "refused 1 state tuple's space byte 2",
+    "refused 1 state waiting space byte 1",
+    "refused 1 state waiting space byte 2",
+    "refused 1 state spaces by their low bytes",
+];
+
 /// The cells that were reached and cannot occur: other outcomes, and more than 32 woken.
 pub fn impossible(coverage: &Coverage) -> Vec<String> {
     let mut found = Vec::new();
@@ -140,11 +227,14 @@ pub fn impossible(coverage: &Coverage) -> Vec<String> {
 
 /// The cells that must be reached.
 pub fn wanted() -> Vec<String> {
-    let mut cells: Vec<String> = CELLS.iter().map(|cell| cell.to_string()).collect();
+    let mut cells: Vec<String> = CELLS.iter().chain(&NUMBERS).map(|cell| cell.to_string()).collect();
     for (mark, outcomes) in OWN {
         cells.extend(outcomes.iter().map(|outcome| format!("{mark} {outcome}")));
     }
     cells.extend((0..=32).map(|count| format!("number woken {count:02}")));
+    for cell in ["spaces open", "named at entry", "not open after entry"] {
+        cells.extend((1..=32).map(|count| format!("{cell} {count:02}")));
+    }
     cells.extend((1..=5).map(|number| format!("refused {number}")));
     cells
 }

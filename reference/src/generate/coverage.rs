@@ -1,10 +1,10 @@
 //! Counts of the cells that the steps of a stream reach.
 
-use super::Step;
+use super::{number_cells, Step};
 use crate::call::split;
 use crate::layout::{read_state, REPLY_BYTES};
 use crate::run::{read_request, Mark, Request, Run};
-use crate::statement::{Branch, Field, Statement, COPY, MOST_BYTES, MOVE};
+use crate::statement::{self, Branch, Field, Statement, COPY, MOST_BYTES, MOVE};
 use crate::value::WHOLE;
 use std::collections::BTreeMap;
 
@@ -71,8 +71,25 @@ impl Coverage {
         self.own(step, mark, own);
         self.woken(mark, woken);
         self.tables(step, &after);
-        if let (Some(request), Some(own)) = (read_request(mark, body), own) {
-            self.causes(&before, &request, own, woken);
+        self.sizes(mark, body, own);
+        if let Some(request) = read_request(mark, body) {
+            let answer = own.map(|own| (own.outcome, own.branch));
+            self.count_all(number_cells::of_request(&before, &request, answer));
+            if let Some(own) = own {
+                self.causes(&before, &request, own, woken);
+            }
+        }
+        self.count_all(number_cells::of_state(&after));
+        for reply in woken {
+            if number_cells::woken_over_255(&before, reply.position, reply.branch) {
+                self.count("woken over 255");
+            }
+        }
+    }
+
+    fn count_all(&mut self, cells: Vec<String>) {
+        for cell in cells {
+            self.count(cell);
         }
     }
 
@@ -107,6 +124,31 @@ impl Coverage {
         }
     }
 
+    /// DS bodies with a byte too few or too many, AG bodies at the limit and over it.
+    fn sizes(&mut self, mark: Mark, body: &[u8], own: Option<&Seen>) {
+        let malformed = own.is_some_and(|own| own.outcome == 6);
+        match (mark, body.len(), malformed) {
+            (Mark::Ds, length @ (4 | 6), true) => self.count(format!("DS 6 of {length} bytes")),
+            (Mark::Ag, MOST_BYTES, false) if own.is_none() => self.count("AG of 250 bytes waits"),
+            (Mark::Ag, length @ (249 | MOST_BYTES), false) => self.count(format!("AG of {length} bytes")),
+            (Mark::Ag, length, true) if length > MOST_BYTES => self.too_long(body),
+            _ => {}
+        }
+    }
+
+    /// Legal but for its length: by one byte, or by no more than one for each space that it names.
+    fn too_long(&mut self, body: &[u8]) {
+        let Some(statement) = statement::parts(body).filter(statement::is_legal_at_any_length) else {
+            return;
+        };
+        if body.len() == MOST_BYTES + 1 {
+            self.count("malformed by one byte");
+        }
+        if body.len() - statement.spaces().len() <= MOST_BYTES {
+            self.count("malformed by its spaces");
+        }
+    }
+
     fn woken(&mut self, mark: Mark, woken: &[Seen]) {
         self.count(format!("number woken {:02}", woken.len()));
         for reply in woken {
@@ -127,7 +169,6 @@ impl Coverage {
             (after.spaces.len() == 32, "32 spaces"),
             (after.waiting.len() == 32, "32 waiting"),
             (after.monitors == 8, "8 monitors"),
-            (after.next == 256, "next number 256"),
             (after.last == u32::MAX, "last position"),
             (step.replies().len() == REPLY_BYTES, "reply of 3564 bytes"),
         ];

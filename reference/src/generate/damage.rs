@@ -1,11 +1,12 @@
 //! Damage to bodies, records and states.
 
+use super::numbers::{self, low};
 use super::rng::Rng;
 use super::statements;
-use crate::layout::{encode, SPACES_AT, SPACE_BYTES, STATE_BYTES, TUPLES_AT, TUPLE_BYTES};
-use crate::layout::{WAITING_AT, WAITING_BYTES};
-use crate::run::{Mark, Run, Tuple};
-use crate::statement::{self, Branch, Field, Operation, Statement};
+use crate::layout::{encode, HEADER_USED, NEXT_AT, SPACES_AT, SPACE_BYTES, SPACE_COUNT_AT, STATE_BYTES};
+use crate::layout::{TUPLES_AT, TUPLE_BYTES, WAITING_AT, WAITING_BYTES};
+use crate::run::{Mark, Run, Tuple, NUMBERS_USED_UP};
+use crate::statement::{self, Branch, Field, Operation, SpaceNumber, Statement};
 use crate::statement::{COPY, IN, INP, MOVE, OUT, RD, RDP, TRUE};
 use crate::value::{metres, name, whole, Value, METRES, NAME, WHOLE};
 
@@ -38,6 +39,14 @@ pub fn body(rng: &mut Rng, mark: Mark, body: Vec<u8>) -> (Vec<u8>, &'static str)
         2 if mark != Mark::Ag => {
             bytes[0] = 16 + rng.below(240) as u8;
             (bytes, "host over 15")
+        }
+        3 if mark == Mark::Ds => {
+            bytes.pop();
+            (bytes, "body cut")
+        }
+        4 if mark == Mark::Ds => {
+            bytes.push(rng.next() as u8);
+            (bytes, "body longer")
         }
         3..=5 if mark == Mark::Ag => breach(rng, bytes),
         _ => {
@@ -183,21 +192,41 @@ pub fn record(rng: &mut Rng, record: Vec<u8>, last: u32) -> (Vec<u8>, &'static s
 /// A damaged state: of another length, with bytes changed, or with its lists broken.
 pub fn state(rng: &mut Rng, good: &Run) -> (Vec<u8>, &'static str) {
     let mut bytes = encode(good);
-    match rng.below(16) {
+    match rng.below(24) {
         0 => {
             let length = rng.pick(&[0, 1, 64, STATE_BYTES - 1, STATE_BYTES + 1]);
             bytes.resize(length, 0);
             (bytes, "length")
         }
-        1..=3 => changed(rng, bytes, (0, 15), 64, "header"),
+        1..=3 => changed(rng, bytes, (0, HEADER_USED), SPACES_AT, "header"),
         4 | 5 => changed(rng, bytes, (SPACES_AT, good.spaces.len() * SPACE_BYTES), TUPLES_AT, "spaces"),
         6 | 7 => changed(rng, bytes, (TUPLES_AT, good.tuples.len() * TUPLE_BYTES), WAITING_AT, "tuples"),
         8 | 9 => {
             let used = (WAITING_AT, good.waiting.len() * WAITING_BYTES);
             changed(rng, bytes, used, STATE_BYTES, "waiting")
         }
-        _ => lists(rng, good).unwrap_or_else(|| changed(rng, bytes, (0, 15), 64, "header")),
+        10 | 11 => one_of(rng, bytes, NEXT_AT, &NEXT_BYTES),
+        12 => one_of(rng, bytes, SPACE_COUNT_AT, &COUNT_BYTES),
+        _ => lists(rng, good).unwrap_or_else(|| one_of(rng, bytes, NEXT_AT, &NEXT_BYTES)),
     }
+}
+
+const NEXT_BYTES: [&str; 4] =
+    ["next number byte 1", "next number byte 2", "next number byte 3", "next number byte 4"];
+
+const COUNT_BYTES: [&str; 4] =
+    ["count of spaces", "count of tuples byte 1", "count of tuples byte 2", "count of waiting"];
+
+/// Changes one of the bytes that stand from a place on, each with its note.
+fn one_of(
+    rng: &mut Rng,
+    mut bytes: Vec<u8>,
+    start: usize,
+    notes: &[&'static str],
+) -> (Vec<u8>, &'static str) {
+    let at = rng.below(notes.len());
+    change(rng, &mut bytes, start + at);
+    (bytes, notes[at])
 }
 
 /// Changes a byte of a section, mostly in the part in use.
@@ -217,30 +246,37 @@ fn changed(
 /// Breaks one condition of "The state buffer"; None where the run has nothing to break.
 fn lists(rng: &mut Rng, good: &Run) -> Option<(Vec<u8>, &'static str)> {
     let mut run = good.clone();
-    let note = match rng.below(16) {
+    let note = match rng.below(28) {
         0..=4 => header_lists(rng, &mut run),
-        5..=7 => space_lists(rng, &mut run),
+        5..=9 => space_lists(rng, &mut run),
+        10..=16 => number_lists(rng, &mut run),
         _ => waiting_lists(rng, &mut run),
     }?;
     Some((encode(&run), note))
 }
 
 fn header_lists(rng: &mut Rng, run: &mut Run) -> Option<&'static str> {
-    match rng.below(5) {
+    match rng.below(6) {
         0 => {
             run.monitors = 9 + rng.below(247) as u8;
             Some("monitors over 8")
         }
         1 => {
-            run.next = 257 + rng.below(1000) as u16;
-            Some("next number over 256")
+            let over = NUMBERS_USED_UP + 1;
+            run.next = rng.pick(&[over, over, over + 255, 2 * NUMBERS_USED_UP, u32::MAX]);
+            Some("next number over 65536")
         }
         2 => {
+            run.next = 0;
+            Some("next number 0")
+        }
+        3 => {
             run.next = run.spaces.last()?.number.into();
             Some("space not below next")
         }
-        3 => {
-            run.tuples.first_mut()?.space = (1..=255).find(|number| run.spaces.iter().all(|s| s.number != *number))?;
+        4 => {
+            let space = closed(rng, run)?;
+            run.tuples.first_mut()?.space = space;
             Some("tuple in closed space")
         }
         _ => {
@@ -255,10 +291,14 @@ fn header_lists(rng: &mut Rng, run: &mut Run) -> Option<&'static str> {
 
 fn space_lists(rng: &mut Rng, run: &mut Run) -> Option<&'static str> {
     let last = run.spaces.len() - 1;
-    match rng.below(5) {
-        0 if last > 0 => {
-            run.spaces.swap(last - 1, last);
-            Some("spaces out of order")
+    match rng.below(6) {
+        0 | 5 if last > 0 => {
+            let falls = |at: &usize| low(run.spaces[*at].number) > low(run.spaces[at + 1].number);
+            let first = (0..last).find(falls).filter(|_| rng.percent(50));
+            let at = first.unwrap_or_else(|| rng.below(last));
+            let note = if falls(&at) { "spaces by their low bytes" } else { "spaces out of order" };
+            run.spaces.swap(at, at + 1);
+            Some(note)
         }
         1 if last > 0 => {
             run.spaces[last].number = run.spaces[last - 1].number;
@@ -279,6 +319,46 @@ fn space_lists(rng: &mut Rng, run: &mut Run) -> Option<&'static str> {
     }
 }
 
+/// A number that is not open, where the one tried is not.
+fn closed(rng: &mut Rng, run: &Run) -> Option<SpaceNumber> {
+    Some(numbers::closed(rng, run)).filter(|number| run.space(*number).is_none())
+}
+
+/// Changes a byte of a space number: to that of another open space, or any way.
+fn number(rng: &mut Rng, run: &Run, old: SpaceNumber, byte: usize) -> SpaceNumber {
+    let mut bytes = old.to_be_bytes();
+    let other = run.spaces[rng.below(run.spaces.len())].number.to_be_bytes();
+    if other[byte] != bytes[byte] && rng.percent(50) {
+        bytes[byte] = other[byte];
+    } else {
+        change(rng, &mut bytes, byte);
+    }
+    SpaceNumber::from_be_bytes(bytes)
+}
+
+/// Changes a byte of the space number in a space entry, a tuple or a waiting body.
+fn number_lists(rng: &mut Rng, run: &mut Run) -> Option<&'static str> {
+    let (good, byte) = (run.clone(), rng.below(2));
+    let (place, notes) = match rng.below(3) {
+        0 => {
+            let at = rng.below(run.spaces.len());
+            (&mut run.spaces[at].number, ["space number byte 1", "space number byte 2"])
+        }
+        1 if !run.tuples.is_empty() => {
+            let at = rng.below(run.tuples.len());
+            (&mut run.tuples[at].space, ["tuple's space byte 1", "tuple's space byte 2"])
+        }
+        _ if !run.waiting.is_empty() => {
+            let at = rng.below(run.waiting.len());
+            let guard = &mut run.waiting[at].statement.branches[0].guard;
+            (&mut guard.spaces[0], ["waiting space byte 1", "waiting space byte 2"])
+        }
+        _ => return None,
+    };
+    *place = number(rng, &good, *place, byte);
+    Some(notes[byte])
+}
+
 fn waiting_lists(rng: &mut Rng, run: &mut Run) -> Option<&'static str> {
     let count = run.waiting.len();
     if count == 0 {
@@ -287,28 +367,28 @@ fn waiting_lists(rng: &mut Rng, run: &mut Run) -> Option<&'static str> {
     let at = rng.below(count);
     let next = (at + 1) % count;
     let host = usize::from(run.waiting[at].statement.host);
-    match rng.below(11) {
+    match rng.below(12) {
         0 => run.waiting[at].position = 0,
         1 => run.waiting[count - 1].position = run.last.checked_add(1)?,
         2 if count > 1 => run.waiting[at].position = run.waiting[next].position,
         3 if count > 1 => run.waiting.swap(at, next),
         4 if count > 1 => run.waiting[at].statement.process = run.waiting[next].statement.process,
         5 => run.up[host] = false,
-        6 => return held(rng, run, at),
-        7 => {
+        6 | 7 => return held(rng, run, at),
+        8 => {
             for branch in &mut run.waiting[at].statement.branches {
                 branch.guard.code = if branch.guard.code == IN { INP } else { RDP };
             }
             return Some("no in or rd guard");
         }
-        8 | 9 => {
+        9 | 10 => {
             let process = run.waiting[at].statement.process;
             let other = run.spaces.iter().find(|space| space.private && space.owner != process)?.number;
             run.waiting[at].statement.branches[0].guard.spaces[0] = other;
             return Some("waits in another's space");
         }
         _ => {
-            let closed = (1..=255).find(|number| run.space(*number).is_none())?;
+            let closed = closed(rng, run)?;
             run.waiting[at].statement.branches[0].guard.spaces[0] = closed;
             return Some("waits in closed space");
         }

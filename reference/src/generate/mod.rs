@@ -3,6 +3,9 @@
 pub mod cells;
 pub mod coverage;
 pub mod damage;
+pub mod long;
+pub mod number_cells;
+pub mod numbers;
 pub mod rng;
 pub mod start;
 pub mod statements;
@@ -10,7 +13,7 @@ pub mod statements;
 use crate::call::{fresh, take};
 use crate::layout::{encode, read_state, REPLY_BYTES, STATE_BYTES};
 use crate::run::{Mark, Run, MARKS};
-use crate::statement;
+use crate::statement::{self, SpaceNumber};
 use rng::Rng;
 use statements::Maker;
 
@@ -93,7 +96,8 @@ impl Stream {
         let profile = PROFILES[(number % PROFILES.len() as u64) as usize];
         let mut state = vec![0; STATE_BYTES];
         fresh(&mut state);
-        let good = if rng.percent(60) { start::built(&mut rng, profile) } else { Run::fresh() };
+        let often = if matches!(profile, Profile::Waiting | Profile::Spaces) { 85 } else { 60 };
+        let good = if rng.percent(often) { start::built(&mut rng, profile) } else { Run::fresh() };
         Stream { rng, profile, state, good }
     }
 
@@ -104,6 +108,18 @@ impl Stream {
         stream
     }
 
+    /// As `from_fresh`, after records that open and close spaces until the next number is this one.
+    pub fn from_fresh_at(seed: u64, number: u64, next: u32) -> (Stream, Vec<Vec<u8>>) {
+        let mut stream = Stream::from_fresh(seed, number);
+        let mut records = vec![stream.fed(Mark::Rv, &[2])];
+        for space in 1..next {
+            let [high, low] = (space as SpaceNumber).to_be_bytes();
+            records.push(stream.fed(Mark::Ms, &[2, 0, 5]));
+            records.push(stream.fed(Mark::Ds, &[2, 0, 5, high, low]));
+        }
+        (stream, records)
+    }
+
     pub fn profile(&self) -> Profile {
         self.profile
     }
@@ -111,14 +127,20 @@ impl Stream {
     /// The next record in order: of the next position and of a size that fits. The run takes it.
     pub fn feed(&mut self) -> Vec<u8> {
         let (mark, body, _) = self.marked_body();
+        self.fed(mark, &body)
+    }
+
+    /// The record at the next position, which the run takes.
+    fn fed(&mut self, mark: Mark, body: &[u8]) -> Vec<u8> {
         let position = self.good.last + 1;
-        self.good.step(position, mark, &body);
-        join(mark_bytes(mark), position, &body)
+        self.good.step(position, mark, body);
+        join(mark_bytes(mark), position, body)
     }
 
     /// Makes the next call.
     pub fn step(&mut self) -> Step {
-        if self.good.last == u32::MAX && self.rng.percent(70) {
+        let idle = self.profile == Profile::Waiting && self.good.waiting.is_empty();
+        if self.good.last == u32::MAX && self.rng.percent(70) || idle && self.rng.percent(20) {
             self.good = start::built(&mut self.rng, self.profile);
         }
         let (record, record_note) = self.record();
@@ -208,7 +230,10 @@ impl Stream {
                 0 => vec![host, high, low],
                 kind => vec![host, high, low, kind as u8 - 1],
             },
-            Mark::Ds => vec![host, high, low, self.space_to_close(process)],
+            Mark::Ds => {
+                let space = self.space_to_close(process).to_be_bytes();
+                [&[host, high, low][..], &space].concat()
+            }
             Mark::Ag => {
                 let mut maker = Maker::new(&mut self.rng, &self.good, self.profile, host, process);
                 statement::write(&maker.statement())
@@ -221,7 +246,8 @@ impl Stream {
         let wanted = mark != Mark::Rv;
         let fit: Vec<u8> = (0..16).filter(|host| self.good.up[usize::from(*host)] == wanted).collect();
         let crowd: Vec<u8> = self.good.waiting.iter().map(|w| w.statement.host).collect();
-        if fit.is_empty() || self.rng.percent(4) {
+        let often = if mark == Mark::Rv { 10 } else { 4 };
+        if fit.is_empty() || self.rng.percent(often) {
             self.rng.below(16) as u8
         } else if mark == Mark::Cr && !crowd.is_empty() && self.rng.percent(60) {
             self.rng.pick(&crowd)
@@ -244,16 +270,26 @@ impl Stream {
         }
     }
 
-    fn space_to_close(&mut self, process: u16) -> u8 {
-        let open: Vec<u8> = self.good.spaces.iter().map(|space| space.number).collect();
-        let own: Vec<u8> =
+    fn space_to_close(&mut self, process: u16) -> SpaceNumber {
+        let open: Vec<SpaceNumber> = self.good.spaces.iter().map(|space| space.number).collect();
+        let own: Vec<SpaceNumber> =
             open.iter().copied().filter(|n| *n > 0 && self.good.is_open_to(*n, process)).collect();
-        match self.rng.below(10) {
-            0 => self.rng.below(256) as u8,
-            1 | 2 => self.rng.pick(&open),
+        let ends = self.ends();
+        match self.rng.below(12) {
+            0 => self.good.spaces.last().map_or(0, |space| space.number),
+            1 | 2 => numbers::closed(&mut self.rng, &self.good),
+            3 | 4 => self.rng.pick(&open),
+            5 | 6 if !ends.is_empty() => self.rng.pick(&ends),
             _ if own.is_empty() => self.rng.pick(&open),
             _ => self.rng.pick(&own),
         }
+    }
+
+    /// The spaces above 0 from or to which waiting statements move or copy.
+    fn ends(&self) -> Vec<SpaceNumber> {
+        let branches = self.good.waiting.iter().flat_map(|waiting| &waiting.statement.branches);
+        let transfers = branches.flat_map(|branch| &branch.body).filter(|op| op.spaces.len() == 2);
+        transfers.flat_map(|op| op.spaces.clone()).filter(|space| *space > 0).collect()
     }
 }
 

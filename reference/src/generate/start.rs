@@ -1,10 +1,11 @@
 //! Starting states built for a profile: nearly full, many waiting, and so on.
 
+use super::numbers;
 use super::rng::Rng;
 use super::statements::{signal, wide, Intent, Maker};
 use super::Profile;
 use crate::run::{Mark, Run, Space, Tuple, MOST_TUPLES};
-use crate::statement;
+use crate::statement::{self, SpaceNumber};
 use crate::value::{metres, name, whole};
 
 /// A process that does not wait.
@@ -49,27 +50,25 @@ fn up_host(rng: &mut Rng, run: &Run) -> u8 {
 }
 
 fn open_spaces(rng: &mut Rng, profile: Profile, run: &mut Run) {
-    let (count, mut number) = match profile {
-        Profile::Spaces => (27 + rng.below(5), 200 + rng.below(25) as u16),
-        _ => (rng.below(4), 1 + rng.below(9) as u16),
+    let count = match profile {
+        Profile::Spaces if rng.percent(60) => 27 + rng.below(5),
+        Profile::Spaces => rng.below(27),
+        Profile::Damage => rng.below(10),
+        _ => rng.below(4),
     };
-    for _ in 0..count {
-        if number > 255 {
-            break;
-        }
+    let numbers = numbers::rising(rng, count);
+    run.next = numbers::next(rng, &numbers);
+    for number in numbers {
         let private = rng.percent(40);
         let owner = if private { rng.below(8) as u16 } else { 0 };
-        run.spaces.push(Space { number: number as u8, private, owner });
-        number += 1;
+        run.spaces.push(Space { number, private, owner });
     }
-    let used_up = profile == Profile::Spaces && rng.percent(30);
-    run.next = if used_up { 256 - rng.below(3) as u16 } else { number };
 }
 
 fn fill(rng: &mut Rng, profile: Profile, run: &mut Run) {
     let full = profile == Profile::Full || profile == Profile::Monitors && rng.percent(25);
     let count = if full { MOST_TUPLES - rng.below(8) } else { rng.below(9) };
-    let spaces: Vec<u8> = run.spaces.iter().map(|space| space.number).collect();
+    let spaces: Vec<SpaceNumber> = run.spaces.iter().map(|space| space.number).collect();
     for i in 0..count {
         let mut values = vec![whole(i as i32), name(7), metres(0x3F00_0000)];
         values.rotate_left(rng.below(3));
@@ -90,7 +89,8 @@ fn add_waiting(rng: &mut Rng, profile: Profile, run: &mut Run, host: u8) {
 
 /// Up to 32 waiting: all alike, all wide, or any.
 fn crowd(rng: &mut Rng, run: &mut Run) {
-    let count = if rng.percent(20) { 32 } else { rng.below(33) };
+    let count = rng.pick(&[0, 6, 6, 6, 6, 6, 6, 6, 6, 32]);
+    let count = (count + rng.below(27)).min(32);
     let style = rng.below(4);
     if style < 3 {
         run.tuples.clear();

@@ -1,9 +1,9 @@
 //! Statements made for a run, each with an ending in view.
 
 use super::rng::Rng;
-use super::Profile;
+use super::{long, numbers, Profile};
 use crate::run::{Run, Tuple};
-use crate::statement::{self, Branch, Field, Operation, Statement};
+use crate::statement::{self, Branch, Field, Operation, SpaceNumber, Statement};
 use crate::statement::{COPY, IN, INP, MOVE, OUT, RD, RDP, TRUE};
 use crate::value::{metres, name, whole, Value, METRES, NAME, WHOLE};
 
@@ -19,6 +19,7 @@ pub enum Intent {
     Grow,
     Foreign,
     Wide,
+    Long,
 }
 
 /// Variables bound so far, with the value expected of each.
@@ -32,7 +33,7 @@ pub struct Maker<'a> {
     process: u16,
 }
 
-fn operation(code: u8, spaces: Vec<u8>, fields: Vec<Field>) -> Operation {
+fn operation(code: u8, spaces: Vec<SpaceNumber>, fields: Vec<Field>) -> Operation {
     Operation { code, spaces, fields }
 }
 
@@ -117,14 +118,14 @@ impl<'a> Maker<'a> {
             }
         }
         let weights = match self.profile {
-            //                      done feed wait 18 16 sum grow foreign wide
-            Profile::Full => [40, 12, 8, 2, 4, 12, 20, 1, 0],
-            Profile::Waiting => [20, 30, 30, 2, 3, 4, 1, 2, 8],
-            Profile::Spaces => [44, 12, 14, 3, 3, 3, 2, 14, 0],
-            Profile::Arithmetic => [15, 15, 12, 2, 2, 50, 0, 1, 0],
-            _ => [42, 18, 16, 4, 5, 6, 2, 4, 1],
+            //                done feed wait 18 16 sum grow foreign wide long
+            Profile::Full => [40, 12, 8, 2, 4, 12, 20, 1, 0, 1],
+            Profile::Waiting => [20, 30, 30, 2, 3, 4, 1, 2, 8, 2],
+            Profile::Spaces => [44, 12, 14, 3, 3, 3, 2, 36, 0, 3],
+            Profile::Arithmetic => [15, 15, 12, 2, 2, 50, 0, 1, 0, 0],
+            _ => [42, 18, 16, 4, 5, 6, 2, 4, 1, 3],
         };
-        let intents = [Done, Feed, Wait, Eighteen, Sixteen, Sum, Grow, Foreign, Wide];
+        let intents = [Done, Feed, Wait, Eighteen, Sixteen, Sum, Grow, Foreign, Wide, Long];
         intents[self.rng.weighted(&weights)]
     }
 
@@ -136,6 +137,10 @@ impl<'a> Maker<'a> {
     pub fn statement_for(&mut self, intent: Intent) -> Statement {
         if intent == Intent::Wide {
             return wide(self.host, self.process, true);
+        }
+        if intent == Intent::Long {
+            let open = self.open();
+            return long::statement(self.rng, &open, self.host, self.process);
         }
         let count = self.rng.pick(&[1, 1, 1, 1, 2, 2, 3, 4]);
         let chosen = self.rng.below(count);
@@ -185,7 +190,7 @@ impl<'a> Maker<'a> {
         match self.found() {
             Some(tuple) if self.rng.percent(65) => {
                 let fields = self.template(&tuple, bound, true);
-                operation(code, vec![tuple.space], fields)
+                operation(code, vec![self.near(tuple.space)], fields)
             }
             _ => operation(TRUE, vec![], vec![]),
         }
@@ -256,13 +261,28 @@ impl<'a> Maker<'a> {
         self.rng.pick(&[WHOLE, WHOLE, NAME, METRES])
     }
 
+    /// The spaces open to the process.
+    fn open(&self) -> Vec<SpaceNumber> {
+        let numbers = self.run.spaces.iter().map(|space| space.number);
+        numbers.filter(|number| self.run.is_open_to(*number, self.process)).collect()
+    }
+
     /// A space open to the process.
-    fn space(&mut self) -> u8 {
-        let run = self.run;
-        let numbers = run.spaces.iter().map(|space| space.number);
-        let open: Vec<u8> = numbers.filter(|number| run.is_open_to(*number, self.process)).collect();
+    fn space(&mut self) -> SpaceNumber {
+        let open = self.open();
         if self.rng.percent(50) {
             0
+        } else {
+            self.rng.pick(&open)
+        }
+    }
+
+    /// The space; now and then another open one that differs in one byte alone.
+    fn near(&mut self, space: SpaceNumber) -> SpaceNumber {
+        let mut open = self.open();
+        open.retain(|other| numbers::are_alike(*other, space));
+        if open.is_empty() || !self.rng.percent(15) {
+            space
         } else {
             self.rng.pick(&open)
         }
@@ -275,7 +295,11 @@ impl<'a> Maker<'a> {
         let mut body = Vec::new();
         for _ in 0..count {
             let found = self.found();
-            let weights = if self.profile == Profile::Full { [12, 30, 15, 30, 3] } else { [50, 14, 16, 12, 3] };
+            let weights = match self.profile {
+                Profile::Full => [12, 30, 15, 30, 3],
+                Profile::Spaces => [36, 10, 14, 25, 15],
+                _ => [50, 14, 16, 12, 3],
+            };
             let operation = match (self.rng.weighted(&weights), found) {
                 (1, Some(tuple)) => operation(IN, vec![tuple.space], self.template(&tuple, bound, true)),
                 (2, Some(tuple)) => operation(RD, vec![tuple.space], self.template(&tuple, bound, true)),
@@ -295,6 +319,7 @@ impl<'a> Maker<'a> {
             from = tuple.space;
             fields = self.template(&tuple, bound, false);
         }
+        let to = if self.rng.percent(70) { to } else { self.near(from) };
         operation(code, vec![from, to], fields)
     }
 
@@ -414,20 +439,26 @@ impl<'a> Maker<'a> {
         }
     }
 
-    /// Names a space that is not open, or another's.
+    /// Names a space that is not open, or another's: in a guard, an out, or at an end of a move or copy.
     fn misname(&mut self, statement: &mut Statement) {
         let run = self.run;
         let private = |s: &&crate::run::Space| s.private && s.owner != self.process;
-        let others: Vec<u8> = run.spaces.iter().filter(private).map(|space| space.number).collect();
-        let space = match self.rng.below(3) {
-            0 | 1 if !others.is_empty() => self.rng.pick(&others),
-            _ => self.rng.below(256) as u8,
+        let others: Vec<SpaceNumber> = run.spaces.iter().filter(private).map(|s| s.number).collect();
+        let wrong = match self.rng.below(4) {
+            0 if !others.is_empty() => self.rng.pick(&others),
+            _ => numbers::closed(self.rng, run),
         };
+        let (right, transfer) = (self.space(), self.rng.pick(&[MOVE, COPY]));
         let count = statement.branches.len();
         let branch = &mut statement.branches[self.rng.below(count)];
         let fields = vec![Field::Given(name(7))];
-        branch.body.insert(0, operation(OUT, vec![space], fields));
-        branch.body.truncate(8);
+        branch.body.truncate(7);
+        match self.rng.below(4) {
+            0 if branch.guard.code != TRUE => branch.guard.spaces = vec![wrong],
+            1 => branch.body.insert(0, operation(transfer, vec![wrong, right], fields)),
+            2 => branch.body.insert(0, operation(transfer, vec![right, wrong], fields)),
+            _ => branch.body.insert(0, operation(OUT, vec![wrong], fields)),
+        }
     }
 }
 

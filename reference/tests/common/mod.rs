@@ -31,7 +31,7 @@ pub struct Cabinet {
 
 impl Cabinet {
     pub fn fresh() -> Cabinet {
-        let mut state = vec![0xAA; 24_768];
+        let mut state = vec![0xAA; 25_312];
         assert_eq!(fresh(&mut state), 0);
         Cabinet { state, reply: vec![0x55; 3_564], position: 0 }
     }
@@ -41,6 +41,29 @@ impl Cabinet {
         let mut cabinet = Cabinet::fresh();
         cabinet.expect("RV", "02", "5250 00000001 02 0000 00 00 01 00 00 00000001");
         cabinet
+    }
+
+    /// A cabinet with these first bytes of the header, of the spaces and of each tuple.
+    pub fn holding(header: &str, spaces: &str, tuples: &[&str]) -> Cabinet {
+        let mut state = vec![0; 25_312];
+        let mut put = |at: usize, text: &str| state[at..at + unhex(text).len()].copy_from_slice(&unhex(text));
+        put(0, header);
+        put(64, spaces);
+        for (i, tuple) in tuples.iter().enumerate() {
+            put(224 + 33 * i, tuple);
+        }
+        let position = u32::from_be_bytes([state[2], state[3], state[4], state[5]]);
+        Cabinet { state, reply: vec![0x55; 3_564], position }
+    }
+
+    /// Whether RV of host 15 at the next position is taken; else it is refused 1 and no byte changes.
+    pub fn holds_a_state(mut self) -> bool {
+        let record = record("RV", self.position + 1, "0F");
+        if take(&mut self.state.clone(), &record, &mut self.reply.clone()) == 18 {
+            return true;
+        }
+        self.refuse(&record, 1);
+        false
     }
 
     pub fn call(&mut self, record: &[u8]) -> u64 {
@@ -56,6 +79,15 @@ impl Cabinet {
         assert_eq!(count, replies.len() as u64, "{mark} {body}");
         assert_eq!(hex(&self.reply[..replies.len()]), hex(&replies), "{mark} {body}");
         assert_eq!(self.reply[replies.len()..], before[replies.len()..]);
+    }
+
+    /// The first bytes of the header and of the spaces; the bytes after these are zero.
+    pub fn expect_spaces(&self, header: &str, spaces: &str) {
+        let (mut header, mut spaces) = (unhex(header), unhex(spaces));
+        header.resize(64, 0);
+        spaces.resize(160, 0);
+        assert_eq!(hex(&self.state[..64]), hex(&header));
+        assert_eq!(hex(&self.state[64..224]), hex(&spaces));
     }
 
     /// As `expect`; the state changes in its position alone.
@@ -76,28 +108,28 @@ impl Cabinet {
 
     /// The used part of each tuple entry, and zero bytes after them.
     pub fn expect_tuples(&self, tuples: &[&str]) {
-        assert_eq!(self.state[12..14], (tuples.len() as u16).to_be_bytes());
+        assert_eq!(self.state[14..16], (tuples.len() as u16).to_be_bytes());
         for (i, tuple) in tuples.iter().enumerate() {
             let mut entry = unhex(tuple);
-            entry.resize(32, 0);
-            assert_eq!(hex(&self.state[192 + 32 * i..224 + 32 * i]), hex(&entry), "tuple {i}");
+            entry.resize(33, 0);
+            assert_eq!(hex(&self.state[224 + 33 * i..257 + 33 * i]), hex(&entry), "tuple {i}");
         }
-        assert!(self.state[192 + 32 * tuples.len()..16_576].iter().all(|byte| *byte == 0));
+        assert!(self.state[224 + 33 * tuples.len()..17_120].iter().all(|byte| *byte == 0));
     }
 
     pub fn waiting(&self) -> u8 {
-        self.state[14]
+        self.state[16]
     }
 
     /// 512 tuples (whole 0) in space 0: out and copies to 128, then 256, 512.
     pub fn full() -> Cabinet {
         let mut cabinet = Cabinet::up();
-        let copies = "07 00 00 00".repeat(7);
-        let first = format!("02 0001 01 00 08 05 00 01 00 00 00000000 {copies}");
+        let copies = "07 0000 0000 00".repeat(7);
+        let first = format!("02 0001 01 00 08 05 0000 01 00 00 00000000 {copies}");
         cabinet.expect("AG", &first, "5250 00000002 02 0001 00 01 00");
-        let more = "02 0001 01 00 02 07 00 00 00 07 00 00 00";
+        let more = "02 0001 01 00 02 07 0000 0000 00 07 0000 0000 00";
         cabinet.expect("AG", more, "5250 00000003 02 0001 00 01 00");
-        assert_eq!(cabinet.state[12..14], [2, 0]);
+        assert_eq!(cabinet.state[14..16], [2, 0]);
         cabinet
     }
 }
