@@ -3,10 +3,11 @@
 
 use crate::caller::{Caller, Expected};
 use crate::hex::record;
+use crate::layout::{REPLY_BYTES, STATE_BYTES};
 use reference::call::split;
 use reference::generate::rng::Rng;
 use reference::generate::Stream;
-use reference::layout::{encode, reply_bytes, REPLY_BYTES, STATE_BYTES};
+use reference::layout::{encode, reply_bytes};
 use reference::run::Run;
 use std::collections::BTreeMap;
 

@@ -3,6 +3,7 @@
 pub mod caller;
 pub mod events;
 pub mod hex;
+pub mod layout;
 pub mod lent;
 pub mod library;
 pub mod measured;

@@ -1,5 +1,6 @@
 //! Stack used by the fresh-state call, by the rows, by generated calls and by the writer.
 
+use crate::layout::STATE_BYTES;
 use crate::rows;
 use crate::stack::Stack;
 use crate::writer::{chain, Desk};
@@ -10,7 +11,7 @@ const ROOM: usize = 256 * 1024;
 const RECORDS: usize = 15;
 
 pub fn fresh() -> usize {
-    let mut state = vec![1; 24_768];
+    let mut state = vec![1; STATE_BYTES];
     Stack::new(ROOM).used(|stack| assert_eq!(stack.fresh(&mut state), 0))
 }
 
@@ -74,7 +75,7 @@ pub fn most(seed: u64, streams: u64) -> usize {
 /// Makes the same calls on a stack of exactly these bytes, below which no byte may be touched.
 pub fn run_within(bytes: usize) {
     let mut stack = Stack::new(bytes);
-    stack.fresh(&mut vec![1; 24_768]);
+    stack.fresh(&mut vec![1; STATE_BYTES]);
     for row in rows::taken().into_iter().chain(rows::refused()) {
         for state in &row.states {
             stack.take(&mut state.clone(), &row.record, &mut vec![0; row.reply_length]);

@@ -2,8 +2,8 @@
 //! them in some mode, a record for each.
 
 use crate::hex::record;
+use crate::layout::{HEADER_USED, REPLY_BYTES, TUPLES_AT, TUPLE_BYTES, VALUES_AT};
 use crate::modes::{self, Mode, Take};
-use crate::replica::REPLY_BYTES;
 use crate::states;
 use reference::generate::rng::Rng;
 use reference::run::Tuple;
@@ -132,20 +132,21 @@ pub fn sums(seed: u64, count: usize) -> Vec<Sum> {
 
 /// in(0, any metres), then out(0, left), in(0, metres into 0), out(0, variable 0 plus or minus right), by process 5
 /// of host 2.
-const ADDS: &str = "02 0005 01  01 00 01 05 02  03
-    05 00 01 00 02 00000000  01 00 01 01 02 00  05 00 01 03 00 02 00000000";
+const ADDS: &str = "02 0005 01  01 0000 01 05 02  03
+    05 0000 01 00 02 00000000  01 0000 01 01 02 00  05 0000 01 03 00 02 00000000";
 /// Where a record has them.
 const POSITION_AT: usize = 4;
-const LEFT_AT: usize = 23;
-const FORM_AT: usize = 36;
-const RIGHT_AT: usize = 39;
-const RECORD_BYTES: usize = 43;
+const LEFT_AT: usize = 25;
+const FORM_AT: usize = 40;
+const RIGHT_AT: usize = 43;
+const RECORD_BYTES: usize = 47;
 const PLUS: u8 = 3;
 const MINUS: u8 = 4;
 
 /// Header and only tuple of the state.
-const USED: [Range<usize>; 2] = [0..16, 192..224];
-const VALUE_AT: usize = 195;
+const USED: [Range<usize>; 2] = [0..HEADER_USED, TUPLES_AT..TUPLES_AT + TUPLE_BYTES];
+/// The four bytes of its value, after the kind.
+const VALUE_AT: usize = TUPLES_AT + VALUES_AT + 1;
 /// The outcome in a reply, the bytes of one with the variable, and of one without.
 const OUTCOME_AT: usize = 9;
 const DONE_BYTES: u64 = 18;

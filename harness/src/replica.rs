@@ -3,12 +3,11 @@
 
 use crate::caller::{Caller, Expected};
 use crate::hex::{hex, record, unhex};
+use crate::layout::{
+    self, LAST, MARK, REPLY_BYTES, STATE_BYTES, TUPLES_AT, TUPLE_BYTES, WAITING_AT, WAITING_BYTES,
+    WAITING_COUNT_AT,
+};
 use crate::library::LIBRARY;
-
-pub const STATE_BYTES: usize = 24_768;
-pub const REPLY_BYTES: usize = 3_564;
-const TUPLES_AT: usize = 192;
-const WAITING_AT: usize = 16_576;
 
 pub struct Replica {
     pub state: Vec<u8>,
@@ -56,10 +55,10 @@ impl Replica {
     /// Host 2 is up, and space 0 has 512 times the tuple (whole 0).
     pub fn full() -> Replica {
         let mut replica = Replica::up();
-        let copies = "07 00 00 00".repeat(7);
-        let first = format!("02 0001 01 00 08 05 00 01 00 00 00000000 {copies}");
+        let copies = "07 0000 0000 00".repeat(7);
+        let first = format!("02 0001 01 00 08 05 0000 01 00 00 00000000 {copies}");
         replica.expect("AG", &first, &["2 2 1 0 1"]);
-        replica.expect("AG", "02 0001 01 00 02 07 00 00 00 07 00 00 00", &["3 2 1 0 1"]);
+        replica.expect("AG", "02 0001 01 00 02 07 0000 0000 00 07 0000 0000 00", &["3 2 1 0 1"]);
         assert_eq!(replica.tuple_count(), 512);
         replica
     }
@@ -87,14 +86,15 @@ impl Replica {
     pub fn expect_bytes(&mut self, mark: &str, body: &str, replies: &[u8]) {
         self.position += 1;
         self.call(&record(mark, self.position, body), replies.len() as u64, replies);
-        assert_eq!(self.state[2..6], self.position.to_be_bytes());
+        assert_eq!(self.state[LAST], self.position.to_be_bytes());
     }
 
     /// As `expect`, and nothing else than the position changes.
     pub fn expect_unchanged(&mut self, mark: &str, body: &str, line: &str) {
         let before = self.state.clone();
         self.expect(mark, body, &[line]);
-        assert!(self.state[..2] == before[..2] && self.state[6..] == before[6..], "{mark} {body}");
+        let after = LAST.end;
+        assert!(self.state[MARK] == before[MARK] && self.state[after..] == before[after..], "{mark} {body}");
     }
 
     /// The call is turned back with this number and changes no byte.
@@ -111,11 +111,11 @@ impl Replica {
     }
 
     pub fn tuple_count(&self) -> usize {
-        usize::from(u16::from_be_bytes([self.state[12], self.state[13]]))
+        layout::tuple_count(&self.state)
     }
 
     pub fn waiting_count(&self) -> u8 {
-        self.state[14]
+        self.state[WAITING_COUNT_AT]
     }
 
     /// These are all tuples, oldest first; the rest of their section is zero.
@@ -124,7 +124,7 @@ impl Replica {
         let mut section = Vec::new();
         for tuple in tuples {
             section.extend(unhex(tuple));
-            section.resize(section.len().next_multiple_of(32), 0);
+            section.resize(section.len().next_multiple_of(TUPLE_BYTES), 0);
         }
         section.resize(WAITING_AT - TUPLES_AT, 0);
         assert!(self.state[TUPLES_AT..WAITING_AT] == section, "{tuples:?}");
@@ -133,8 +133,7 @@ impl Replica {
     /// The used bytes of a waiting entry, and zeros after them.
     pub fn expect_waiting(&self, at: usize, entry: &str) {
         let mut bytes = unhex(entry);
-        bytes.resize(256, 0);
-        let start = WAITING_AT + 256 * at;
-        assert_eq!(hex(&self.state[start..start + 256]), hex(&bytes));
+        bytes.resize(WAITING_BYTES, 0);
+        assert_eq!(hex(&self.state[layout::waiting(at)]), hex(&bytes));
     }
 }

@@ -1,5 +1,6 @@
 //! Calls that go deep or take long: the rows of the benchmark, on which the stack is measured too.
 
+use crate::layout::{REPLY_BYTES, STATE_BYTES};
 use crate::states::{self, any, branch, given, naming, operation, put, scattered, statement, LAST};
 use reference::generate::join;
 use reference::generate::statements::wide;
@@ -21,7 +22,8 @@ pub struct Row {
 fn marked(name: &'static str, runs: &[Run], mark: [u8; 2], body: &[u8]) -> Row {
     let record = join(mark, runs[0].last + 1, body);
     let is_brief = runs[0].tuples.len() < 2 && runs[0].waiting.is_empty();
-    Row { name, states: runs.iter().map(states::bytes).collect(), record, reply_length: 3_564, is_brief }
+    let states = runs.iter().map(states::bytes).collect();
+    Row { name, states, record, reply_length: REPLY_BYTES, is_brief }
 }
 
 /// The statement of host 2, process 7, as the next record of these runs.
@@ -142,8 +144,8 @@ fn many_spaces() -> Vec<Row> {
     let takes = vec![branch(operation(IN, &[newest.space], given(&newest.values)), vec![])];
     let puts = |from: usize, to: usize| always((from..to).map(put).collect());
     let twelve = [naming(3, 0), puts(9, 12)].concat();
-    let closes =
-        |name, run: &Run| marked(name, std::slice::from_ref(run), *b"DS", &[2, 0, 7, scattered(LAST)]);
+    let [high, low] = scattered(LAST).to_be_bytes();
+    let closes = |name, run: &Run| marked(name, std::slice::from_ref(run), *b"DS", &[2, 0, 7, high, low]);
     vec![
         row("32 spaces, 512 tuples, in of the newest", std::slice::from_ref(&full), takes),
         row("32 spaces, 504 tuples, outs to 8 of them", &[states::spread(504)], puts(0, 8)),
@@ -153,6 +155,11 @@ fn many_spaces() -> Vec<Row> {
         closes("32 spaces, 31 waiting name 12 each, DS", &crowd),
     ]
 }
+
+/// The check of the states of these rows takes at most so many units of the benchmark, in the least sample: 512 tuples
+/// of one shape in one space, and spread over 32.
+pub const LIMITS: [(&str, f64); 2] =
+    [("512 tuples of 3, in of the newest", 15.0), ("32 spaces, 512 tuples, in of the newest", 20.0)];
 
 /// Records that are taken.
 pub fn taken() -> Vec<Row> {
@@ -170,10 +177,10 @@ pub fn refused() -> Vec<Row> {
         row
     };
     vec![
-        changed("refusal 1, length", |row| row.states[0].truncate(24_767)),
+        changed("refusal 1, length", |row| row.states[0].truncate(STATE_BYTES - 1)),
         changed("refusal 1, first byte", |row| row.states[0][0] = 0),
-        changed("refusal 1, last byte", |row| row.states[0][24_767] = 1),
-        changed("refusal 2", |row| row.reply_length = 3_563),
+        changed("refusal 1, last byte", |row| row.states[0][STATE_BYTES - 1] = 1),
+        changed("refusal 2", |row| row.reply_length = REPLY_BYTES - 1),
         changed("refusal 3", |row| row.record[0] = b'X'),
         changed("refusal 4", |row| row.record[7] = 1),
         changed("refusal 5", |row| row.record[7] = 3),

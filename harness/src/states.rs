@@ -4,12 +4,12 @@ use reference::generate::rng::Rng;
 use reference::generate::statements::{signal, wide};
 use reference::layout::{encode, is_state};
 use reference::run::{Run, Space, Tuple, Waiting};
-use reference::statement::{Branch, Field, Operation, Statement, IN, INP, MOVE, OUT, RD, RDP};
+use reference::statement::{self, Branch, Field, Operation, Statement, IN, INP, MOVE, OUT, RD, RDP};
 use reference::value::{metres, name, whole, Value};
 
 // ---- Parts ----
 
-pub fn operation(code: u8, spaces: &[u8], fields: Vec<Field>) -> Operation {
+pub fn operation(code: u8, spaces: &[u16], fields: Vec<Field>) -> Operation {
     Operation { code, spaces: spaces.to_vec(), fields }
 }
 
@@ -29,7 +29,7 @@ pub fn statement(host: u8, process: u16, branches: Vec<Branch>) -> Statement {
     Statement { host, process, branches }
 }
 
-fn tuple(space: u8, values: &[Value]) -> Tuple {
+fn tuple(space: u16, values: &[Value]) -> Tuple {
     Tuple { space, values: values.to_vec() }
 }
 
@@ -50,13 +50,13 @@ pub fn near_empty() -> Run {
 // ---- States to be damaged ----
 
 /// A tuple of a count of values, whose kinds and values go by the number; neighbours differ in kind.
-fn mixed_tuple(space: u8, number: usize, count: usize) -> Tuple {
+fn mixed_tuple(space: u16, number: usize, count: usize) -> Tuple {
     let kinds = [whole(-(number as i32)), name(number as u16), metres(0xC060_0000)];
     Tuple { space, values: (0..count).map(|at| kinds[(number + at) % 3]).collect() }
 }
 
 /// in on (name 999) and three more guards, each of another code; none holds.
-fn four_guards(host: u8, process: u16, spaces: [u8; 2]) -> Statement {
+fn four_guards(host: u8, process: u16, spaces: [u16; 2]) -> Statement {
     let mark = |number| given(&[name(number)]);
     let feeds = operation(OUT, &[spaces[0]], given(&[name(998), metres(1)]));
     let moves = operation(MOVE, &spaces, vec![any(1)]);
@@ -70,57 +70,70 @@ fn four_guards(host: u8, process: u16, spaces: [u8; 2]) -> Statement {
 }
 
 /// A body of 250 bytes that waits for one metres value in a space.
-fn longest(host: u8, process: u16, space: u8) -> Statement {
-    let out = operation(OUT, &[space], given(&[whole(0); 6]));
-    let mut body = vec![out; 6];
-    body.push(operation(MOVE, &[space, space], vec![any(0)]));
-    statement(host, process, vec![branch(operation(RD, &[space], vec![any(2)]), body)])
+fn longest(host: u8, process: u16, space: u16) -> Statement {
+    let out = |count| operation(OUT, &[space], given(&vec![whole(0); count]));
+    let mut body = vec![out(6); 5];
+    body.extend([out(4), operation(MOVE, &[space, space], vec![any(0), any(0)])]);
+    let guard = operation(RD, &[space], vec![Field::Bind { kind: 2, variable: 0 }]);
+    let longest = statement(host, process, vec![branch(guard, body)]);
+    assert_eq!(statement::write(&longest).len(), 250);
+    longest
 }
 
 fn wait(run: &mut Run, position: u32, statement: Statement) {
     run.waiting.push(Waiting { position, statement });
 }
 
+/// The spaces of `small`: a byte of one is often that of another.
+pub const SMALL: [u16; 5] = [0, 2, 256, 258, 2_056];
+
 /// A state with something in each section, and room in each.
 pub fn small() -> Run {
-    let mut run = Run { last: 1000, monitors: 3, next: 9, ..Run::fresh() };
+    let mut run = Run { last: 1000, monitors: 3, next: 2_057, ..Run::fresh() };
     for host in [0, 2, 15] {
         run.up[host] = true;
     }
-    for (number, private, owner) in [(2, false, 0), (3, true, 5), (7, true, 0), (8, true, 65_535)] {
-        run.spaces.push(Space { number, private, owner });
+    let kinds = [(false, 0), (true, 5), (true, 0), (true, 65_535)];
+    for (number, (private, owner)) in SMALL[1..].iter().zip(kinds) {
+        run.spaces.push(Space { number: *number, private, owner });
     }
     for number in 0..14 {
-        let space = [0, 2, 3, 7, 8][number % 5];
-        run.tuples.push(mixed_tuple(space, number, 2 + number % 5));
+        run.tuples.push(mixed_tuple(SMALL[number % 5], number, 2 + number % 5));
     }
     wait(&mut run, 3, signal(0, 40));
-    wait(&mut run, 700, four_guards(2, 5, [0, 3]));
+    wait(&mut run, 700, four_guards(2, 5, [0, 256]));
     wait(&mut run, 998, longest(15, 41, 2));
     wait(&mut run, 999, wide(2, 42, false));
-    wait(&mut run, 1000, four_guards(0, 65_535, [8, 2]));
+    wait(&mut run, 1000, four_guards(0, 65_535, [2_056, 2]));
     run
 }
 
-/// All tables are full, and one more record can be taken.
+/// The spaces of `full`, 0 to 65,535: each of four high bytes with each of eight low ones, so that a changed byte
+/// now names another open space and now none.
+fn crossed() -> Vec<u16> {
+    let lows = [0x00, 0x01, 0x02, 0x04, 0x7F, 0x80, 0xFE, 0xFF];
+    [0x00, 0x01, 0x80, 0xFF].iter().flat_map(|high| lows.map(|low| high << 8 | low)).collect()
+}
+
+/// All tables are full, all numbers are used up, and one more record can be taken. A process waits for each space,
+/// and has its number: every third space is private to it.
 pub fn full() -> Run {
-    let mut run = Run { last: u32::MAX - 1, monitors: 8, next: 256, up: [true; 16], ..Run::fresh() };
-    for number in 225..=255 {
-        let private = number % 3 == 0;
-        run.spaces.push(Space { number, private, owner: if private { u16::from(number) } else { 0 } });
+    let mut run = Run { last: u32::MAX - 1, monitors: 8, next: 65_536, up: [true; 16], ..Run::fresh() };
+    let spaces = crossed();
+    for (at, number) in spaces.iter().copied().enumerate().skip(1) {
+        let private = at % 3 == 1;
+        run.spaces.push(Space { number, private, owner: if private { number } else { 0 } });
     }
     for number in 0..512 {
-        let space = run.spaces[number % 32].number;
-        run.tuples.push(mixed_tuple(space, number, 2 + number % 5));
+        run.tuples.push(mixed_tuple(spaces[number % 32], number, 2 + number % 5));
     }
-    for number in 0..32 {
-        let process = 224 + number as u16;
-        let space = if number % 3 == 1 { process as u8 } else { 0 };
-        let statement = match number % 4 {
-            0 => longest(number, process, 0),
-            _ => four_guards(number % 16, process, [space, 0]),
+    for (at, space) in spaces.into_iter().enumerate() {
+        let host = at as u8 % 16;
+        let statement = match at % 4 {
+            0 => longest(host, space, space),
+            _ => four_guards(host, space, [space, 0]),
         };
-        wait(&mut run, 1 + u32::from(number) * 100_000_000, Statement { host: number % 16, ..statement });
+        wait(&mut run, 1 + at as u32 * 100_000_000, statement);
     }
     run
 }
@@ -128,7 +141,7 @@ pub fn full() -> Run {
 // ---- States to time calls on ----
 
 /// (name 7, this whole number, metres 1).
-fn shaped(space: u8, number: usize) -> Tuple {
+fn shaped(space: u16, number: usize) -> Tuple {
     tuple(space, &[name(7), whole(number as i32), metres(0x3F80_0000)])
 }
 
@@ -232,18 +245,23 @@ pub fn crowd(all_variables: bool) -> Run {
 
 // ---- States of 32 spaces ----
 
-/// The 32 spaces are 0, 8, .. 248. Each 32 numbers in a row give all of them, and neighbours lie far apart.
-pub fn scattered(number: usize) -> u8 {
-    (number * 11 % 32 * 8) as u8
+/// The 32 spaces, 0, 2114, 4228, .. 65,535: both bytes vary.
+fn apart(at: usize) -> u16 {
+    (at * 65_535 / 31) as u16
 }
 
-/// The place of space 248, the last, among the scattered.
+/// Each 32 numbers in a row give all 32 spaces, and neighbours lie far apart.
+pub fn scattered(number: usize) -> u16 {
+    apart(number * 11 % 32)
+}
+
+/// The place of space 65,535, the last, among the scattered.
 pub const LAST: usize = 29;
 
 /// Tuples of one shape, as many in each of 32 spaces as in another.
 pub fn spread(tuples: usize) -> Run {
-    let mut run = Run { next: 256, ..near_empty() };
-    run.spaces = (0..32).map(|at| Space { number: at * 8, private: false, owner: 0 }).collect();
+    let mut run = Run { next: 65_536, ..near_empty() };
+    run.spaces = (0..32).map(|at| Space { number: apart(at), private: false, owner: 0 }).collect();
     run.tuples = (0..tuples).map(|number| shaped(scattered(number), number)).collect();
     run
 }

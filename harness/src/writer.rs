@@ -1,6 +1,7 @@
 //! The writer's functions: one addition compared in everything that it can do, and chains of random additions.
 
 use crate::hex::hex;
+use crate::layout::{REPLY_BYTES, STATE_BYTES};
 use crate::lent::Lent;
 use crate::library::{self, Addition, Field};
 use reference::generate::join;
@@ -85,17 +86,15 @@ fn field_bytes(field: &Field) -> Vec<u8> {
     [vec![field.form], parts].concat()
 }
 
-/// The bytes of an addition, legal or not; None where a space has none.
-pub fn bytes(addition: &Addition) -> Option<Vec<u8>> {
+/// The bytes of an addition, legal or not.
+pub fn bytes(addition: &Addition) -> Vec<u8> {
     let mut bytes = vec![addition.code];
     if addition.code != 0 {
-        for space in spaces(addition) {
-            bytes.push(u8::try_from(space).ok()?);
-        }
+        bytes.extend(spaces(addition).into_iter().flat_map(u16::to_be_bytes));
         bytes.push(addition.count.min(255) as u8);
         bytes.extend(fields(addition).iter().flat_map(field_bytes));
     }
-    Some(bytes)
+    bytes
 }
 
 /// A body, and where the operation count of its last branch stands.
@@ -107,14 +106,13 @@ pub struct Body {
 
 impl Body {
     /// The body with an addition more, legal or not.
-    pub fn with(&self, call: Call, addition: &Addition) -> Option<Body> {
-        let added = bytes(addition)?;
+    pub fn with(&self, call: Call, addition: &Addition) -> Body {
         let mut body = self.clone();
         if let Call::Begin { host, process } = call {
             let [high, low] = process.to_be_bytes();
             body.bytes = vec![host, high, low, 0];
         }
-        body.bytes.extend(added);
+        body.bytes.extend(bytes(addition));
         if call == Call::Operation {
             body.bytes[self.count_at] += 1;
         } else {
@@ -122,7 +120,7 @@ impl Body {
             body.count_at = body.bytes.len();
             body.bytes.push(0);
         }
-        Some(body)
+        body
     }
 }
 
@@ -204,7 +202,7 @@ impl<W: Write> Desk<W> {
 
     /// The outcome that a replica with all hosts up gives a statement of this body; None where it waits.
     pub fn outcome(&self, body: &[u8]) -> Result<Option<u8>, String> {
-        let (mut state, mut reply) = (self.up.clone(), [0; 3_564]);
+        let (mut state, mut reply) = (self.up.clone(), [0; REPLY_BYTES]);
         match library::take(&mut state, &join(*b"AG", 17, body), &mut reply) {
             0 => Ok(None),
             number @ 1..=5 => Err(format!("the record was refused {number}")),
@@ -224,12 +222,12 @@ impl<W: Write> Desk<W> {
         let (answer, fill) = self.agree(buffer, body.bytes.len(), call, addition)?;
         let composed = body.with(call, addition);
         let filled = &self.buffer.bytes()[..if answer == 0 { fill } else { 0 }];
-        if answer == 0 && composed.as_ref().is_none_or(|composed| composed.bytes != filled) {
+        if answer == 0 && composed.bytes != filled {
             return Err(format!("the filled bytes are {}", hex(filled)));
         }
-        let Some(composed) = composed.filter(|_| is_judged(call, body, buffer)) else {
+        if !is_judged(call, body, buffer) {
             return Ok(answer);
-        };
+        }
         if answer == 0 {
             self.counts.note_body(&composed);
         } else {
@@ -250,7 +248,7 @@ fn is_judged(call: Call, body: &Body, buffer: &[u8]) -> bool {
 
 /// The state with hosts 0 to 15 up, at position 16.
 fn all_up() -> Vec<u8> {
-    let (mut state, mut reply) = (vec![0; 24_768], [0; 3_564]);
+    let (mut state, mut reply) = (vec![0; STATE_BYTES], [0; REPLY_BYTES]);
     assert_eq!(library::fresh(&mut state), 0);
     for host in 0..16 {
         let record = join(*b"RV", u32::from(host) + 1, &[host]);
@@ -261,7 +259,8 @@ fn all_up() -> Vec<u8> {
 
 // ---- Random additions ----
 
-const SPACES: [u16; 5] = [0, 1, 255, 256, 65_535];
+/// Ends of the range, and of what one byte holds; numbers with a low byte of 0. All are legal.
+const SPACES: [u16; 7] = [0, 1, 255, 256, 512, 32_768, 65_535];
 /// Ends of the ranges of every kind; infinite metres, metres that are no number, negative zero.
 const BITS: [u32; 12] = [
     0,
@@ -349,10 +348,8 @@ fn legal_addition(rng: &mut Rng, guard: bool, wide: bool, bound: &Bound) -> (Add
     if addition.code == 0 {
         return (addition, binds);
     }
-    addition.from = rng.pick(&[0, 0, 1, 255]);
     addition.count = if wide { 5 + rng.below(2) } else { 1 + rng.below(3) };
     if addition.code > 5 {
-        addition.to = rng.pick(&[0, 0, 1, 255]);
         addition.count -= rng.below(2);
     }
     for at in 0..addition.count {
@@ -445,14 +442,14 @@ impl Chain {
         let (addition, bound) = self.next_addition(call);
         let told = |fault: String| format!("{call:?} {addition:?}: {fault}");
         let after = self.body.with(call, &addition);
-        let needed = after.as_ref().map_or(0, |after| after.bytes.len()).min(ROOM - 1);
+        let needed = after.bytes.len().min(ROOM - 1);
         let buffer = self.buffer();
         let mut done = false;
         for length in self.lengths(needed) {
             done = desk.add(&self.body, call, &addition, &buffer[..length]).map_err(told)? == 0;
         }
         self.damaged(desk, buffer, call, &addition).map_err(told)?;
-        if let Some(after) = after.filter(|_| done) {
+        if done {
             (self.body, self.bound) = (after, bound);
         }
         Ok(())

@@ -2,6 +2,7 @@
 
 use harness::caller::Caller;
 use harness::events::{self, Counts};
+use harness::layout::{LAST, NEXT, REPLY_BYTES, STATE_BYTES};
 use harness::library::{Calls, REFERENCE};
 use harness::streams;
 use reference::call::{split, take};
@@ -77,7 +78,7 @@ fn a_gap_that_is_passed() {
         |state, record, reply| {
             let returned = take(state, record, reply);
             if returned == 5 {
-                state[2..6].copy_from_slice(&record[4..8]);
+                state[LAST].copy_from_slice(&record[4..8]);
                 return take(state, record, reply);
             }
             returned
@@ -94,7 +95,7 @@ fn the_first_record_alone() {
             let returned = take(state, record, reply);
             let late = split(record).is_some_and(|(_, position, _)| position > 1);
             if is_taken(returned) && late {
-                state[6..].copy_from_slice(&before[6..]);
+                state[LAST.end..].copy_from_slice(&before[LAST.end..]);
             }
             returned
         },
@@ -102,11 +103,71 @@ fn the_first_record_alone() {
     );
 }
 
+// ---- Space numbers: event lists are short and begin with the fresh state, so that the streams alone must notice ----
+
+fn noticed_by_streams(take: Take, words: &str) {
+    let [by_streams, _] = verdicts(take);
+    let fault = by_streams.expect_err("not noticed");
+    assert!(fault.contains(words), "{fault}");
+}
+
+/// A record with the high byte of a space at this place made 0.
+fn low_byte_alone(record: &[u8], at: usize) -> Vec<u8> {
+    let mut record = record.to_vec();
+    record[at] = 0;
+    record
+}
+
+#[test]
+fn a_space_closed_by_its_low_byte() {
+    noticed_by_streams(
+        |state, record, reply| match record {
+            [b'D', b'S', ..] if record.len() == 13 => take(state, &low_byte_alone(record, 11), reply),
+            _ => take(state, record, reply),
+        },
+        " and not ",
+    );
+}
+
+/// The space of the first guard, or of the first operation after a guard that is true.
+#[test]
+fn a_space_named_by_its_low_byte() {
+    noticed_by_streams(
+        |state, record, reply| match record {
+            [b'A', b'G', _, _, _, _, _, _, _, _, _, _, 1..=4, ..] if record.len() > 13 => {
+                take(state, &low_byte_alone(record, 13), reply)
+            }
+            [b'A', b'G', _, _, _, _, _, _, _, _, _, _, 0, 1..=8, ..] if record.len() > 15 => {
+                take(state, &low_byte_alone(record, 15), reply)
+            }
+            _ => take(state, record, reply),
+        },
+        " and not ",
+    );
+}
+
+#[test]
+fn the_last_space_number_withheld() {
+    noticed_by_streams(
+        |state, record, reply| {
+            let is_last = state.len() == STATE_BYTES && state[NEXT] == [0, 0, 0xFF, 0xFF];
+            let returned = take(state, record, reply);
+            if is_last && record.starts_with(b"MS") && is_taken(returned) {
+                reply[9] = 14;
+            }
+            returned
+        },
+        "the reply buffer byte 9 is 0E and not 00",
+    );
+}
+
+// ---- The order of 1 and 2 ----
+
 /// Event lists lend states alone: the streams notice this one.
 #[test]
 fn two_before_one() {
     let [by_streams, by_lists] = verdicts(|state, record, reply| match reply.len() {
-        0..3_564 => 2,
+        0..REPLY_BYTES => 2,
         _ => take(state, record, reply),
     });
     assert!(by_streams.is_err_and(|fault| fault.contains("returned 2 and not 1")));

@@ -1,7 +1,11 @@
 //! States damaged at every byte position of every section, and records at every byte.
 
 use harness::caller::{Caller, Expected};
-use harness::hex::{hex, record};
+use harness::hex::{hex, record, unhex};
+use harness::layout::{
+    self, HEADER_USED, MARK, NEXT, SPACES_AT, SPACE_BYTES, SPACE_COUNT_AT, STATE_BYTES, TUPLES_AT,
+    TUPLE_BYTES, TUPLE_COUNT, WAITING_AT, WAITING_BYTES,
+};
 use harness::library::LIBRARY;
 use harness::replica::Replica;
 use harness::states;
@@ -10,12 +14,6 @@ use reference::run::Run;
 use reference::statement;
 use std::collections::BTreeMap;
 
-const HEADER_USED: usize = 15;
-const SPACES_AT: usize = 64;
-const TUPLES_AT: usize = 192;
-const WAITING_AT: usize = 16_576;
-const STATE_BYTES: usize = 24_768;
-
 /// How often each number was returned: 0 stands for a record taken.
 type Returns = BTreeMap<u64, usize>;
 
@@ -23,9 +21,9 @@ type Returns = BTreeMap<u64, usize>;
 fn in_use(run: &Run, at: usize) -> bool {
     let sections = [
         (0, HEADER_USED),
-        (SPACES_AT, 4 * run.spaces.len()),
-        (TUPLES_AT, 32 * run.tuples.len()),
-        (WAITING_AT, 256 * run.waiting.len()),
+        (SPACES_AT, SPACE_BYTES * run.spaces.len()),
+        (TUPLES_AT, TUPLE_BYTES * run.tuples.len()),
+        (WAITING_AT, WAITING_BYTES * run.waiting.len()),
     ];
     sections.iter().any(|(start, length)| (*start..start + length).contains(&at))
 }
@@ -89,7 +87,7 @@ fn the_fresh_state_at_every_byte() {
     let mut bytes = Replica::fresh().state;
     let (record, reply) = (record("RV", 1, "03"), [4; 3_564]);
     let mut caller = Caller::new(LIBRARY);
-    for at in (0..2).chain(11..STATE_BYTES) {
+    for at in MARK.chain(SPACE_COUNT_AT..STATE_BYTES) {
         let old = bytes[at];
         for new in some(old) {
             bytes[at] = new;
@@ -100,26 +98,165 @@ fn the_fresh_state_at_every_byte() {
     }
 }
 
+// ---- Bytes of numbers, with what the paper says of them ----
+
+/// Whether the library takes the bytes for a state; 3 is tried after that.
+fn is_state(bytes: &[u8]) -> bool {
+    let mut caller = Caller::new(LIBRARY);
+    let returned = caller.call(bytes, b"XX", &[4; 3_564]);
+    assert!(caller.left().0 == bytes && [1, 3].contains(&returned), "returned {returned}");
+    returned == 3
+}
+
+/// Every value of the byte at this place: a state exactly where `expected` says so.
+fn each_value(state: &[u8], at: usize, expected: impl Fn(u8) -> bool) {
+    let mut bytes = state.to_vec();
+    for new in 0..=255 {
+        bytes[at] = new;
+        assert_eq!(is_state(&bytes), expected(new), "byte {at} made {new}");
+    }
+}
+
+/// The fresh state, but spaces 0, 1 and 256 are open; with this next number and these tuples.
+fn three_spaces(next: u32, tuples: &[&str]) -> Vec<u8> {
+    let mut bytes = Replica::fresh().state;
+    layout::set_next(&mut bytes, next);
+    bytes[SPACE_COUNT_AT] = 3;
+    for (at, entry) in ["0000 00 0000", "0001 00 0000", "0100 00 0000"].iter().enumerate() {
+        bytes[layout::space(at)].copy_from_slice(&unhex(entry));
+    }
+    bytes[TUPLE_COUNT].copy_from_slice(&(tuples.len() as u16).to_be_bytes());
+    for (at, entry) in tuples.iter().enumerate() {
+        let entry = unhex(entry);
+        bytes[layout::tuple(at)][..entry.len()].copy_from_slice(&entry);
+    }
+    assert!(is_state(&bytes));
+    bytes
+}
+
+/// 1 to 65,536, by each of the four bytes.
+#[test]
+fn each_byte_of_the_next_number() {
+    for next in [1_u32, 256, 65_535, 65_536] {
+        let mut bytes = Replica::fresh().state;
+        layout::set_next(&mut bytes, next);
+        for (place, at) in NEXT.enumerate() {
+            let with = |new: u8| {
+                let mut number = next.to_be_bytes();
+                number[place] = new;
+                u32::from_be_bytes(number)
+            };
+            each_value(&bytes, at, |new| (1..=65_536).contains(&with(new)));
+        }
+    }
+}
+
+/// The next number is above all spaces that are open.
+#[test]
+fn each_byte_of_the_next_number_above_a_space() {
+    let [first, second, third, fourth] = [0, 1, 2, 3].map(|place| NEXT.start + place);
+    let bytes = three_spaces(0x0302, &[]);
+    each_value(&bytes, first, |new| new == 0);
+    each_value(&bytes, second, |new| new == 0);
+    each_value(&bytes, third, |new| new >= 1);
+    each_value(&bytes, fourth, |_| true);
+    let bytes = three_spaces(0x0101, &[]);
+    each_value(&bytes, third, |new| new >= 1);
+    each_value(&bytes, fourth, |new| new >= 1);
+}
+
+/// Numbers of spaces rise, from 0 to below the next number.
+#[test]
+fn each_byte_of_a_space_number() {
+    let bytes = three_spaces(0x0300, &[]);
+    let [zero, one, last] = [0, 1, 2].map(|at| layout::space(at).start);
+    each_value(&bytes, zero, |new| new == 0);
+    each_value(&bytes, zero + 1, |new| new == 0);
+    each_value(&bytes, one, |new| new == 0);
+    each_value(&bytes, one + 1, |new| new >= 1);
+    each_value(&bytes, last, |new| new == 1 || new == 2);
+    each_value(&bytes, last + 1, |_| true);
+    let all = three_spaces(65_536, &[]);
+    each_value(&all, last, |new| new >= 1);
+    let mut exchanged = bytes;
+    exchanged[layout::space(1)].copy_from_slice(&unhex("0100 00 0000"));
+    exchanged[layout::space(2)].copy_from_slice(&unhex("0001 00 0000"));
+    assert!(!is_state(&exchanged));
+}
+
+/// A tuple lies in an open space. 257 is not open, though both of its bytes are bytes of open ones.
+#[test]
+fn each_byte_of_a_tuples_space() {
+    let bytes = three_spaces(65_536, &["0000 01 00 00000000", "0100 01 00 00000000", "0001 01 00 00000000"]);
+    let [in_0, in_256, in_1] = [0, 1, 2].map(|at| layout::tuple(at).start);
+    each_value(&bytes, in_0, |new| new <= 1);
+    each_value(&bytes, in_0 + 1, |new| new <= 1);
+    each_value(&bytes, in_256, |new| new <= 1);
+    each_value(&bytes, in_256 + 1, |new| new == 0);
+    each_value(&bytes, in_1, |new| new == 0);
+    each_value(&bytes, in_1 + 1, |new| new <= 1);
+}
+
+/// A space with tuples is not to be lost, by either byte of its number.
+#[test]
+fn each_byte_of_the_number_of_a_space_with_tuples() {
+    let bytes = three_spaces(65_536, &["0100 01 00 00000000"]);
+    let last = layout::space(2).start;
+    each_value(&bytes, last, |new| new == 1);
+    each_value(&bytes, last + 1, |new| new == 0);
+}
+
+/// The counts, and the bytes after them up to the first space.
+#[test]
+fn each_byte_of_the_counts_and_the_rest_of_the_header() {
+    let bytes = three_spaces(65_536, &["0000 01 00 00000000", "0100 01 00 00000000"]);
+    for at in SPACE_COUNT_AT..SPACES_AT {
+        let old = bytes[at];
+        each_value(&bytes, at, |new| new == old);
+    }
+}
+
+/// A waiting statement names open spaces, by both bytes, at both ends of a move.
+#[test]
+fn each_byte_of_a_space_that_a_waiting_statement_names() {
+    let mut bytes = three_spaces(65_536, &[]);
+    bytes[layout::LAST].copy_from_slice(&unhex("00000001"));
+    bytes[layout::HOSTS].copy_from_slice(&unhex("0004"));
+    bytes[layout::WAITING_COUNT_AT] = 1;
+    let entry = unhex("00000001 0011 02 0005 01  01 0100 01 05 00  01  06 0000 0100 00");
+    let start = layout::waiting(0).start;
+    bytes[start..start + entry.len()].copy_from_slice(&entry);
+    assert!(is_state(&bytes));
+    let [guard, from, to] = [11, 18, 20].map(|at| start + at);
+    for (at, high) in [(guard, 1), (from, 0), (to, 1)] {
+        assert_eq!(bytes[at..at + 2], [high, 0]);
+        each_value(&bytes, at, |new| new <= 1);
+        each_value(&bytes, at + 1, |new| new == 0 || high == 0 && new == 1);
+    }
+}
+
 /// Records that are done on the small state: one of each mark, and statements with all codes and forms.
 fn records(run: &Run) -> Vec<Vec<u8>> {
-    let all_body_codes =
-        "02 0001 01  00  08  07 00 02 02 05 00 00 01 00000007  06 02 02 00  05 02 01 00 02 3F800000
-        01 02 01 05 02  03 00 02 01 00 00 05 01  05 00 02 02 00 03 00 00 7FFFFFFF  05 00 01 04 00 00 00000001
-        07 02 00 00";
-    let all_guards = "02 0001 04  01 00 02 01 01 04 01 02 0F  01  05 00 01 03 0F 02 40400000
-        02 00 01 00 00 FFFFFFFF  00  03 00 03 05 00 05 01 05 02  00
-        04 00 01 01 02 00  01  05 00 02 04 00 02 00000001 02 00";
-    let variables = "02 0001 01  03 00 02 01 00 00 01 01 01  03  05 00 01 02 00
-        05 00 02 03 00 00 00000001 02 01  01 00 01 02 00";
+    let all_body_codes = "02 0001 01  00  08  07 0000 0002 02 05 00 00 01 00000007  06 0002 0002 00
+        05 0002 01 00 02 3F800000  01 0002 01 05 02  03 0000 02 01 00 00 05 01
+        05 0000 02 02 00 03 00 00 7FFFFFFF  05 0000 01 04 00 00 00000001  07 0002 0000 00";
+    let all_guards = "02 0001 04  01 0000 02 01 01 04 01 02 0F  01  05 0000 01 03 0F 02 40400000
+        02 0000 01 00 00 FFFFFFFF  00  03 0000 03 05 00 05 01 05 02  00
+        04 0000 01 01 02 00  01  05 0000 02 04 00 02 00000001 02 00";
+    let variables = "02 0001 01  03 0000 02 01 00 00 01 01 01  03  05 0000 01 02 00
+        05 0000 02 03 00 00 00000001 02 01  01 0000 01 02 00";
+    let high_spaces = "02 0000 01  04 0102 05 05 00 05 01 05 02 05 00 05 01  03
+        05 0102 01 00 01 00000007  06 0102 0002 00  07 0002 0102 01 05 01";
     let bodies = [
         ("RV", "01"),
         ("CR", "02"),
         ("MO", "02 0001"),
         ("MS", "02 0001 01"),
-        ("DS", "02 0000 07"),
+        ("DS", "02 0000 0102"),
         ("AG", all_body_codes),
         ("AG", all_guards),
         ("AG", variables),
+        ("AG", high_spaces),
     ];
     bodies.iter().map(|(mark, body)| record(mark, run.last + 1, body)).collect()
 }

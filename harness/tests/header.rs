@@ -1,4 +1,4 @@
-//! The header's names have document 01's numbers, and its layout number is the library's.
+//! The header's names have the paper's numbers, and its layout number is the library's.
 
 use harness::library::replica_layout;
 use harness::stack::defined;
@@ -20,12 +20,12 @@ fn expect_all(start: &str, names: &[(&str, usize)]) {
 
 #[test]
 fn the_layout_is_the_librarys() {
-    assert_eq!(defined("REPLICA_LAYOUT") as u64, unsafe { replica_layout() });
+    assert_eq!((defined("REPLICA_LAYOUT"), unsafe { replica_layout() }), (2, 2));
 }
 
 #[test]
 fn sizes() {
-    expect("", &[("STATE_BYTES", 24_768), ("REPLY_BYTES", 3_564), ("BODY_BYTES", 250), ("FIELDS", 6)]);
+    expect("", &[("STATE_BYTES", 25_312), ("REPLY_BYTES", 3_564), ("BODY_BYTES", 250), ("FIELDS", 6)]);
     expect("REPLY_", &[("HEAD", 12), ("VALUE", 6)]);
 }
 

@@ -2,6 +2,7 @@
 
 use harness::caller::Caller;
 use harness::hex::record;
+use harness::layout::STATE_BYTES;
 use harness::library::{replica_fresh, replica_take, LIBRARY};
 use harness::replica::Replica;
 use harness::states;
@@ -13,10 +14,10 @@ use std::ptr::{null, null_mut};
 /// The fresh-state call gives 1 for length, else 0.
 #[test]
 fn fresh_on_every_length() {
-    let junk: Vec<u8> = (0..24_832).map(|at| (at * 31 + 1) as u8).collect();
+    let junk: Vec<u8> = (0..STATE_BYTES + 64).map(|at| (at * 31 + 1) as u8).collect();
     let mut caller = Caller::new(LIBRARY);
     for length in 0..=junk.len() {
-        let expected = u64::from(length != 24_768);
+        let expected = u64::from(length != STATE_BYTES);
         assert_eq!(caller.agree_fresh(&junk[..length]), Ok(expected), "{length} bytes");
     }
 }
@@ -24,11 +25,11 @@ fn fresh_on_every_length() {
 #[test]
 fn a_state_of_every_length() {
     let mut bytes = Replica::up().state;
-    bytes.resize(24_832, 0);
+    bytes.resize(STATE_BYTES + 64, 0);
     let mut caller = Caller::new(LIBRARY);
     let record = record("CR", 2, "02");
     for length in 0..=bytes.len() {
-        let expected = if length == 24_768 { 18 } else { 1 };
+        let expected = if length == STATE_BYTES { 18 } else { 1 };
         assert_eq!(caller.agree(&bytes[..length], &record, &[5; 3_564]), Ok(expected), "{length} bytes");
     }
 }
@@ -73,9 +74,9 @@ fn null_with_length_0() {
         assert_eq!(replica_fresh(null_mut(), 0), 1);
         assert_eq!(replica_take(null_mut(), 0, null(), 0, null_mut(), 0), 1);
         assert_eq!(replica_take(null_mut(), 0, r, 9, a, 3_564), 1);
-        assert_eq!(replica_take(s, 24_768, r, 9, null_mut(), 0), 2);
-        assert_eq!(replica_take(s, 24_768, null(), 0, null_mut(), 0), 2);
-        assert_eq!(replica_take(s, 24_768, null(), 0, a, 3_564), 3);
+        assert_eq!(replica_take(s, STATE_BYTES, r, 9, null_mut(), 0), 2);
+        assert_eq!(replica_take(s, STATE_BYTES, null(), 0, null_mut(), 0), 2);
+        assert_eq!(replica_take(s, STATE_BYTES, null(), 0, a, 3_564), 3);
     }
     assert!(state == before && reply == lent);
 }

@@ -9,16 +9,17 @@ use std::time::Duration;
 
 const SEED: u64 = 1;
 
-fn example() -> Vec<u8> {
-    let add_one = "02 0005 01 01 00 02 00 01 00000007 01 00 00 01 05 00 02 00 01 00000007 03 00 00 00000001";
-    let put_41 = "02 0006 01 00 01 05 00 02 00 01 00000007 00 00 00000029";
-    [record("RV", 1, "02"), record("AG", 2, add_one), record("AG", 3, put_41)].concat()
+fn example() -> [Vec<u8>; 3] {
+    let add_one =
+        "02 0005 01 01 0000 02 00 01 00000007 01 00 00 01 05 0000 02 00 01 00000007 03 00 00 00000001";
+    let put_41 = "02 0006 01 00 01 05 0000 02 00 01 00000007 00 00 00000029";
+    [record("RV", 1, "02"), record("AG", 2, add_one), record("AG", 3, put_41)]
 }
 
 #[test]
 fn the_example() {
     let lines = "1 2 0 0 0 0:0:00000001\n3 2 6 0 1\n2 2 5 0 1 0:0:00000029\n";
-    assert_eq!(printed(&example(), &Pieces::whole()), lines);
+    assert_eq!(printed(&example().concat(), &Pieces::whole()), lines);
 }
 
 #[test]
@@ -53,7 +54,7 @@ fn an_unknown_mark_ends_it() {
 /// Cut anywhere, the example ends in `refused 3`, save between two records.
 #[test]
 fn a_cut_last_record_ends_it() {
-    let (stream, ends) = (example(), [0, 9, 50]);
+    let (stream, ends) = (example().concat(), [0, 9, 52]);
     let whole = ["", "1 2 0 0 0 0:0:00000001\n", "1 2 0 0 0 0:0:00000001\n"];
     for length in 0..stream.len() {
         let before = ends.iter().rposition(|end| *end <= length).unwrap_or(0);
@@ -132,6 +133,21 @@ fn a_long_random_stream() {
     let found = printed(&input, &Pieces::whole());
     assert!(input.len() > 300_000);
     assert!(found == lines::printed(&input), "seed {SEED}");
+}
+
+/// Each space number is given out and its space closed, until none is left.
+#[test]
+fn all_space_numbers() {
+    let (mut input, mut lines) = (record("RV", 1, "02"), "1 2 0 0 0 0:0:00000001\n".to_string());
+    for number in 1..=65_535 {
+        let (opens, closes) = (2 * number, 2 * number + 1);
+        input.extend(record("MS", opens, "02 0005"));
+        input.extend(record("DS", closes, &format!("02 0005 {number:04X}")));
+        lines.push_str(&format!("{opens} 2 5 0 0 0:0:{number:08X}\n{closes} 2 5 0 0\n"));
+    }
+    input.extend(record("MS", 131_072, "02 0005"));
+    lines.push_str("131072 2 5 14 0\n");
+    assert!(printed(&input, &Pieces::whole()) == lines);
 }
 
 /// A host goes up and down 100,000 times.

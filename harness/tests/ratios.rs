@@ -1,5 +1,8 @@
 //! The ratios of two files of plain output, on small ones whose ratios are worked out by hand; the rows.
 
+use harness::layout::{
+    tuple, tuple_count, SPACE_COUNT_AT, VALUES_AT, VALUE_BYTES, VALUE_COUNT_AT, WAITING_COUNT_AT,
+};
 use harness::library::LIBRARY;
 use harness::ratios::{line, read, Ratio, Ratios};
 use harness::{rows, states};
@@ -98,7 +101,7 @@ fn what_is_written_is_read() {
 #[test]
 fn what_is_no_plain_output_is_refused() {
     for line in [
-        "unit: a pass over 24,768 bytes",
+        "unit: a pass over 25,312 bytes",
         "a\t1.0",
         "a\t1.0\t2.0\t3.0",
         "a\tx\t1.0",
@@ -117,10 +120,10 @@ fn names_of_rows_differ() {
     assert!(names.windows(2).all(|pair| pair[0] != pair[1]), "{names:?}");
 }
 
-fn distinct(mut spaces: Vec<u8>) -> usize {
-    spaces.sort_unstable();
-    spaces.dedup();
-    spaces.len()
+fn distinct<T: Ord>(mut numbers: Vec<T>) -> usize {
+    numbers.sort_unstable();
+    numbers.dedup();
+    numbers.len()
 }
 
 /// They are done: one reply with outcome 0 and no values.
@@ -131,7 +134,7 @@ fn rows_of_32_spaces() {
     for row in &rows {
         let (mut state, mut reply) = (row.states[0].clone(), vec![0; row.reply_length]);
         assert_eq!((LIBRARY.take)(&mut state, &row.record, &mut reply), 12, "{}", row.name);
-        assert_eq!((row.states[0][11], reply[9]), (32, 0), "{}", row.name);
+        assert_eq!((row.states[0][SPACE_COUNT_AT], reply[9]), (32, 0), "{}", row.name);
     }
     let names = |row: &&rows::Row| statement::read(&row.record[8..]).map(|read| distinct(read.spaces()));
     assert_eq!(rows.iter().map(names).collect::<Vec<_>>(), [Some(1), Some(8), Some(12), Some(1), None, None]);
@@ -139,11 +142,39 @@ fn rows_of_32_spaces() {
     assert!(states::many_names().waiting.iter().all(|entry| distinct(entry.statement.spaces()) == 12));
 }
 
+/// Their numbers lie far apart, and differ in both bytes.
+#[test]
+fn the_32_spaces() {
+    let numbers: Vec<u16> = states::spread(0).spaces.iter().map(|space| space.number).collect();
+    assert_eq!((numbers.len(), numbers[0], numbers[31]), (32, 0, 65_535));
+    assert!(numbers.windows(2).all(|pair| pair[1] - pair[0] >= 2_114), "{numbers:?}");
+    let bytes = |at: usize| numbers.iter().map(|number| number.to_be_bytes()[at]).collect::<Vec<u8>>();
+    assert_eq!([0, 1].map(|at| distinct(bytes(at))), [32, 32], "{numbers:?}");
+    assert_eq!(states::scattered(states::LAST), 65_535);
+}
+
+/// The states of rows with a limit have 512 tuples of three fields, in one space and in 32.
+#[test]
+fn rows_with_a_limit() {
+    let rows = rows::taken();
+    let found = rows::LIMITS.map(|(name, _)| rows.iter().find(|row| row.name == name));
+    let counts = found.map(|row| row.map(|row| (tuple_count(&row.states[0]), row.states[0][SPACE_COUNT_AT])));
+    assert_eq!(counts, [Some((512, 1)), Some((512, 32))]);
+    for row in found.into_iter().flatten() {
+        let tuples = (0..512).map(|at| &row.states[0][tuple(at)]);
+        assert!(tuples.clone().all(|tuple| tuple[VALUE_COUNT_AT] == 3), "{}", row.name);
+        let spaces = tuples.map(|tuple| [tuple[0], tuple[1]]).collect();
+        assert_eq!(distinct::<[u8; 2]>(spaces), usize::from(row.states[0][SPACE_COUNT_AT]), "{}", row.name);
+    }
+}
+
 /// What the tuples of a state are, by the bits of their values.
 fn bits(state: &[u8]) -> Vec<Vec<u32>> {
-    let entries = state[192..].chunks(32).take(usize::from(state[13]));
-    let values = |entry: &[u8]| entry[2..].chunks(5).take(usize::from(entry[1])).map(word).collect();
-    entries.map(values).collect()
+    let values = |entry: &[u8]| {
+        let count = usize::from(entry[VALUE_COUNT_AT]);
+        entry[VALUES_AT..].chunks(VALUE_BYTES).take(count).map(word).collect()
+    };
+    (0..tuple_count(state)).map(|at| values(&state[tuple(at)])).collect()
 }
 
 /// The bits of a metres value.
@@ -179,7 +210,7 @@ fn the_row_that_wakes_from_the_youngest() {
         reply[..count as usize].chunks(12).map(|reply| (reply[5], reply[9])).collect();
     let woken = (1..=32).rev().map(|position| (position, 0));
     assert_eq!(answered[1..], woken.collect::<Vec<_>>());
-    assert_eq!(state[12..15], [2, 0, 0]);
+    assert_eq!((tuple_count(&state), state[WAITING_COUNT_AT]), (512, 0));
 }
 
 /// What the program says of two files of these bytes.

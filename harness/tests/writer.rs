@@ -75,9 +75,9 @@ impl Page {
     /// The addition has this answer; where it is done, it stays.
     fn expect(&mut self, call: Call, addition: Addition, answer: u64) {
         assert_eq!(self.desk.add(&self.body, call, &addition, &self.buffer), Ok(answer), "{addition:?}");
-        if let Some(body) = self.body.with(call, &addition).filter(|_| answer == 0) {
-            self.buffer[..body.bytes.len()].copy_from_slice(&body.bytes);
-            self.body = body;
+        if answer == 0 {
+            self.body = self.body.with(call, &addition);
+            self.buffer[..self.body.bytes.len()].copy_from_slice(&self.body.bytes);
         }
     }
 
@@ -113,12 +113,13 @@ fn the_papers_statements() {
     page.expect(BEGIN, addition(1, 0, 0, &[name, field(1, 0, 0, 0)]), 0);
     page.expect(Call::Operation, addition(5, 0, 0, &[name, field(3, 0, 0, 1)]), 0);
     page.expect_body(
-        "02 0005 01 01 00 02 00 01 00000007 01 00 00 01 05 00 02 00 01 00000007 03 00 00 00000001",
+        "02 0005 01 01 0000 02 00 01 00000007 01 00 00 01 05 0000 02 00 01 00000007 03 00 00 00000001",
     );
-    assert_eq!(page.body.bytes.len(), 33);
+    assert_eq!(page.body.bytes.len(), 35);
     page.expect(Call::Begin { host: 2, process: 6 }, always(), 0);
     page.expect(Call::Operation, addition(5, 0, 0, &[name, field(0, 0, 0, 41)]), 0);
-    page.expect_body("02 0006 01 00 01 05 00 02 00 01 00000007 00 00 00000029");
+    page.expect_body("02 0006 01 00 01 05 0000 02 00 01 00000007 00 00 00000029");
+    assert_eq!(page.body.bytes.len(), 22);
 }
 
 #[test]
@@ -128,12 +129,12 @@ fn every_form_and_both_spaces() {
     page.expect(BEGIN, addition(3, 255, 9, &binds), 0);
     let uses = [field(2, 9, 11, 3), field(4, 2, 12, 0x3F80_0000), field(3, 0, 10, 0xFFFF_FFFF)];
     page.expect(Call::Operation, addition(5, 1, 999, &uses), 0);
-    page.expect(Call::Operation, addition(6, 1, 255, &[field(5, 2, 77, 7)]), 0);
+    page.expect(Call::Operation, addition(6, 258, 65_535, &[field(5, 2, 77, 7)]), 0);
     page.expect(Call::Operation, addition(7, 0, 1, &[]), 0);
     page.expect(Call::Branch, always(), 0);
-    let first = "03 FF 03 01 00 0A 01 01 0B 01 02 0C 03";
-    let out = "05 01 03 02 0B 04 0C 02 3F800000 03 0A 00 FFFFFFFF";
-    page.expect_body(&format!("02 0005 02 {first} {out} 06 01 FF 01 05 02 07 00 01 00 00 00"));
+    let first = "03 00FF 03 01 00 0A 01 01 0B 01 02 0C 03";
+    let out = "05 0001 03 02 0B 04 0C 02 3F800000 03 0A 00 FFFFFFFF";
+    page.expect_body(&format!("02 0005 02 {first} {out} 06 0102 FFFF 01 05 02 07 0000 0001 00 00 00"));
 }
 
 /// What the guard true does not have is not looked at.
@@ -179,28 +180,29 @@ fn grown(operations: &[Addition]) -> Page {
     page
 }
 
+/// A begun body with five outs of six fields, and then these operations, which has so many bytes.
+fn long(operations: &[Addition], bytes: usize) -> Page {
+    let page = grown(&[&[out(6); 5], operations].concat());
+    assert_eq!(page.body.bytes.len(), bytes);
+    page
+}
+
 #[test]
 fn an_operation_to_250_and_to_251_bytes() {
-    let mut page = grown(&[out(6), out(6), out(6), out(6), out(6), out(5), read(&[0, 1])]);
-    assert_eq!(page.body.bytes.len(), 245);
-    page.expect(Call::Operation, addition(7, 0, 0, &[field(5, 0, 0, 0)]), 6);
+    let mut page = long(&[out(4), out(1)], 244);
+    page.expect(Call::Operation, addition(3, 0, 0, &[field(1, 0, 0, 0)]), 6);
     page.expect(Call::Operation, read(&[]), 0);
     assert_eq!(page.body.bytes.len(), 250);
 }
 
 #[test]
 fn a_branch_to_250_and_to_251_bytes() {
-    let mut page = grown(&[out(6), out(6), out(6), out(6), out(6), out(6), read(&[0])]);
-    assert_eq!(page.body.bytes.len(), 248);
+    let mut page = long(&[out(5), addition(7, 0, 0, &[field(5, 0, 0, 0)])], 248);
     page.expect(Call::Branch, always(), 0);
     assert_eq!(page.body.bytes.len(), 250);
     page.expect(Call::Branch, always(), 6);
-    let mut page = grown(&[out(6), out(6), out(6), out(6), out(6), out(6), read(&[])]);
-    assert_eq!(page.body.bytes.len(), 245);
-    page.expect(Call::Branch, read(&[]), 6);
-    page.expect(Call::Operation, addition(7, 0, 0, &[]), 0);
-    assert_eq!(page.body.bytes.len(), 249);
-    page.expect(Call::Branch, always(), 6);
+    long(&[out(4), out(1)], 244).expect(Call::Branch, read(&[]), 6);
+    long(&[out(5), read(&[0])], 249).expect(Call::Branch, always(), 6);
 }
 
 /// 6 where the addition is illegal in a short buffer too; 2 only where it is legal.
@@ -211,29 +213,62 @@ fn two_not_before_six() {
         let mut page = Page::new(length);
         page.expect(Call::Begin { host: 16, process: 5 }, always(), 6);
         page.expect(BEGIN, out(1), 6);
-        page.expect(BEGIN, addition(1, 0, 0, &[name]), 6);
-        page.expect(BEGIN, addition(1, 256, 0, &[field(5, 0, 0, 0)]), 6);
+        page.expect(BEGIN, addition(1, 256, 0, &[name]), 6);
         page.expect(BEGIN, always(), if length < 6 { 2 } else { 0 });
     }
-    for length in 6..=15 {
+    for length in 6..=16 {
         let mut page = Page::begun(length);
         page.expect(Call::Operation, always(), 6);
         page.expect(Call::Operation, addition(5, 0, 0, &[name]), 6);
         page.expect(Call::Branch, out(1), 6);
-        page.expect(Call::Operation, out(1), if length < 15 { 2 } else { 0 });
+        page.expect(Call::Operation, out(1), if length < 16 { 2 } else { 0 });
     }
 }
 
+/// The body of a page on which this call is done.
+fn written(mut page: Page, call: Call, addition: Addition) -> String {
+    page.expect(call, addition, 0);
+    hex(&page.body.bytes)
+}
+
+/// Every space is legal, at both ends, and is written in two bytes; one in a short buffer is 2.
 #[test]
-fn spaces_above_255() {
-    for space in [0, 1, 255, 256, 257, 511, 65_535] {
-        let answer = if space < 256 { 0 } else { 6 };
-        let any = [field(5, 0, 0, 0)];
-        Page::new(250).expect(BEGIN, addition(1, space, 0, &any), answer);
-        Page::new(250).expect(BEGIN, addition(1, 0, space, &any), 0);
-        Page::begun(250).expect(Call::Operation, addition(6, space, 0, &any), answer);
-        Page::begun(250).expect(Call::Operation, addition(7, 0, space, &any), answer);
-        Page::begun(250).expect(Call::Branch, addition(4, space, 0, &any), answer);
+fn every_space() {
+    let any = [field(5, 0, 0, 0)];
+    let begun = |call, addition| written(Page::begun(250), call, addition);
+    for space in [0, 1, 255, 256, 257, 512, 32_768, 65_535] {
+        let digits = format!("{space:04X}");
+        for code in 1..=4 {
+            let guard = format!("0{code}{digits}010500");
+            let first = written(Page::new(250), BEGIN, addition(code, space, 999, &any));
+            assert_eq!(first, format!("02000501{guard}00"));
+            let more = begun(Call::Branch, addition(code, space, 999, &any));
+            assert_eq!(more, format!("020005020000{guard}00"));
+        }
+        let puts = begun(Call::Operation, addition(5, space, 999, &[field(0, 0, 0, 7)]));
+        assert_eq!(puts, format!("02000501000105{digits}01000000000007"));
+        for code in 6..=7 {
+            let from = begun(Call::Operation, addition(code, space, 258, &any));
+            assert_eq!(from, format!("0200050100010{code}{digits}0102010500"));
+            let to = begun(Call::Operation, addition(code, 258, space, &any));
+            assert_eq!(to, format!("0200050100010{code}0102{digits}010500"));
+            Page::begun(13).expect(Call::Operation, addition(code, space, space, &any), 2);
+        }
+    }
+}
+
+/// All of 0 to 65,535, as the space of an in, and as both ends of a move.
+#[test]
+fn all_spaces() {
+    let (mut buffer, mut fill) = ([0; 32], 0);
+    for space in 0..=65_535 {
+        let digits = format!("{space:04X}");
+        let guard = addition(1, space, 0, &[field(5, 0, 0, 0)]);
+        assert_eq!(library(&mut buffer, &mut fill, BEGIN, guard), 0, "{space}");
+        let moves = addition(6, space, !space, &[]);
+        assert_eq!(library(&mut buffer, &mut fill, Call::Operation, moves), 0, "{space}");
+        let body = format!("02 0005 01 01 {digits} 01 05 00 01 06 {digits} {:04X} 00", !space);
+        assert_eq!(buffer[..fill], unhex(&body), "{space}");
     }
 }
 
@@ -259,7 +294,7 @@ fn every_buffer_length() {
         (Call::Operation, out(6)),
         (Call::Branch, addition(1, 0, 0, &[field(1, 0, 0, 0)])),
     ] {
-        let after = body.with(call, &addition).expect("it has bytes");
+        let after = body.with(call, &addition);
         let bytes = [&body.bytes[..], &ample[body.bytes.len()..]].concat();
         for length in 0..=256 {
             let expected = match length {
@@ -312,7 +347,7 @@ fn the_second_implementation_passes() {
 fn wrong_two_before_six() {
     noticed(
         |body, fill, call, addition| {
-            let needed = fill.saturating_add(bytes(&addition).map_or(0, |bytes| bytes.len()));
+            let needed = fill.saturating_add(bytes(&addition).len());
             if call == Call::Operation && body.len() < needed {
                 return 2;
             }
@@ -377,13 +412,46 @@ fn wrong_byte_past_the_buffer() {
 }
 
 #[test]
-fn wrong_space_256_let_through() {
+fn wrong_high_byte_of_a_space_lost() {
     noticed(
         |body, fill, call, mut addition| {
             addition.from %= 256;
             reference(body, fill, call, addition)
         },
-        "and not 6",
+        "the body byte",
+    );
+}
+
+#[test]
+fn wrong_high_byte_of_a_target_space_lost() {
+    noticed(
+        |body, fill, call, mut addition| {
+            addition.to %= 256;
+            reference(body, fill, call, addition)
+        },
+        "the body byte",
+    );
+}
+
+#[test]
+fn wrong_bytes_of_a_space_exchanged() {
+    noticed(
+        |body, fill, call, mut addition| {
+            addition.from = addition.from.swap_bytes();
+            reference(body, fill, call, addition)
+        },
+        "the body byte",
+    );
+}
+
+#[test]
+fn wrong_space_above_255_refused() {
+    noticed(
+        |body, fill, call, addition| match reference(body, fill, call, addition) {
+            0 if (1..=7).contains(&addition.code) && addition.from > 255 => 6,
+            answer => answer,
+        },
+        "returned 6 and not 0",
     );
 }
 
@@ -391,10 +459,12 @@ fn wrong_space_256_let_through() {
 fn wrong_target_space_of_an_in_looked_at() {
     noticed(
         |body, fill, call, mut addition| {
-            addition.from = addition.from.max(if addition.to > 255 { 256 } else { 0 });
+            if (1..=5).contains(&addition.code) {
+                addition.from |= addition.to;
+            }
             reference(body, fill, call, addition)
         },
-        "returned 6 and not",
+        "the body byte",
     );
 }
 
@@ -417,7 +487,8 @@ fn wrong_bytes_of_a_refused_addition() {
     noticed(
         |body, fill, call, addition| {
             let answer = reference(body, fill, call, addition);
-            if let (2, Some(bytes)) = (answer, bytes(&addition)) {
+            if answer == 2 {
+                let bytes = bytes(&addition);
                 let at = (*fill).min(body.len());
                 let room = bytes.len().min(body.len() - at);
                 body[at..at + room].copy_from_slice(&bytes[..room]);

@@ -1,25 +1,32 @@
 //! Times calls of the library. The unit is the time that reading a state once takes, 8 bytes at a time: one pass over
-//! 24,768 bytes that sums them up, timed in the same run.
+//! all its bytes that sums them up, timed in the same run.
 //!
 //!     bench [SAMPLES]
+//!     bench --limits [SAMPLES]   the checks of states that have a limit alone
 //!     bench --plain [SAMPLES]    for programs: lines of name, tab, check of the state, tab, whole call, in least ns
 //!     bench --asked              such a line, of samples of some milliseconds, for each name that is a line of input
+//!
+//! The exit status of the first two is 1 where a check takes longer than its limit.
 //!
 //! Buffers are warm: each sample copies a state to the one buffer and times a call on it. The check of the
 //! state is timed by the same call with an unknown mark, which check 3 turns back; the rest is what the call
 //! takes beyond that.
 
+use harness::layout::STATE_BYTES;
 use harness::library::{Calls, LIBRARY, REFERENCE};
 use harness::program::{path, printed, Pieces};
 use harness::ratios::line;
-use harness::rows::{self, Row};
+use harness::rows::{self, Row, LIMITS};
 use std::hint::black_box;
 use std::io::stdin;
+use std::process::ExitCode;
 use std::time::{Duration, Instant};
 
 const SAMPLES: usize = 4_000;
 /// Samples of a row that takes long end sooner.
 const MOST: Duration = Duration::from_secs(2);
+/// How often a unit and a check that has a limit are timed in turn.
+const TURNS: usize = 40;
 /// A call that is turned back leaves its buffers as they were, so that many can be timed at once.
 const AT_ONCE: usize = 32;
 /// How long a row is timed where it is asked for, and how often at least.
@@ -58,15 +65,25 @@ fn clock() -> f64 {
     summed((0..10_000).map(|_| clocked(1, 0.0, || ())).collect()).least
 }
 
+/// Each turn of the loop adds up 16 words. With four, it takes twice as long where the linker lays it across two lines
+/// of the cache.
 #[inline(never)]
 fn pass(bytes: &[u8]) -> u64 {
     let word = |chunk: &[u8]| chunk.try_into().map_or(0, u64::from_ne_bytes);
-    bytes.chunks_exact(8).fold(0, |sum, chunk| sum.wrapping_add(word(chunk)))
+    let turns = bytes.chunks_exact(128);
+    let mut sums = [0_u64; 16];
+    let rest = turns.remainder().chunks_exact(8).map(word);
+    for turn in turns {
+        for (sum, chunk) in sums.iter_mut().zip(turn.chunks_exact(8)) {
+            *sum = sum.wrapping_add(word(chunk));
+        }
+    }
+    rest.chain(sums).fold(0, u64::wrapping_add)
 }
 
 /// One word-wise pass over a state.
 fn unit(samples: usize, clock: f64) -> Times {
-    let state = vec![3; 24_768];
+    let state = vec![3; STATE_BYTES];
     let sample = |_| {
         clocked(AT_ONCE, clock, || {
             black_box(pass(black_box(&state)));
@@ -155,6 +172,33 @@ fn print_refused(rows: &[Row], samples: usize, unit: f64, clock: f64) {
     }
 }
 
+/// Least nanoseconds of a unit and of the check of a row's state. They are timed in turns, so that both have quiet
+/// moments.
+fn unit_and_check(row: &Row, samples: usize, clock: f64) -> [f64; 2] {
+    let (mut timed, samples) = (Timed::new(LIBRARY, row, clock), samples.div_ceil(TURNS));
+    let turns = (0..TURNS).map(|_| {
+        let [check, ..] = timed.taken(numbers(samples), 1);
+        [unit(samples, clock).least, check.least]
+    });
+    turns.fold([f64::INFINITY; 2], |least, turn| [0, 1].map(|at| least[at].min(turn[at])))
+}
+
+/// The checks of states that have a limit; whether all keep it.
+fn print_limits(samples: usize, clock: f64) -> bool {
+    let (rows, mut kept) = (rows::taken(), true);
+    println!("\ncheck of state, least{:25}    units  at most          ns  ns of a unit", "");
+    for (name, most) in LIMITS {
+        let row = rows.iter().find(|row| row.name == name).unwrap_or_else(|| panic!("no row {name}"));
+        agree(row);
+        let [unit, check] = unit_and_check(row, samples, clock);
+        let units = check / unit;
+        let verdict = if units > most { "  TOO LONG" } else { "" };
+        println!("{name:46} {units:8.2} {most:8.2} {check:11.0} {unit:13.0}{verdict}");
+        kept &= units <= most;
+    }
+    kept
+}
+
 /// The pace of `cabinet` at two lengths of stream.
 fn print_program() {
     println!();
@@ -168,16 +212,19 @@ fn print_program() {
     }
 }
 
-fn print_all(samples: usize) {
+/// Whether all limits are kept.
+fn print_all(samples: usize) -> bool {
     let clock = clock();
     let unit = unit(samples, clock);
-    println!("A unit is the time of reading a state once: a pass over its 24,768 bytes, 8 at a time, that sums them up.");
+    println!("A unit is the time of reading a state once: a pass over {STATE_BYTES} bytes, 8 at a time, that sums them up.");
     println!("Here it is {:.0} ns at least, {:.0} ns in the median.\n", unit.least, unit.median);
     print_taken(&rows::taken(), samples, unit.least, clock);
     print_refused(&rows::refused(), samples, unit.least, clock);
+    let kept = print_limits(samples, clock);
     if path().exists() {
         print_program();
     }
+    kept
 }
 
 /// The plain line of a row.
@@ -215,12 +262,15 @@ fn print_asked() {
     }
 }
 
-fn main() {
+fn main() -> ExitCode {
     let words: Vec<String> = std::env::args().skip(1).collect();
     let samples = |at: usize| words.get(at).and_then(|word| word.parse().ok()).unwrap_or(SAMPLES);
+    let mut kept = true;
     match words.first().map(String::as_str) {
         Some("--plain") => print_plain(samples(1)),
         Some("--asked") => print_asked(),
-        _ => print_all(samples(0)),
+        Some("--limits") => kept = print_limits(samples(1), clock()),
+        _ => kept = print_all(samples(0)),
     }
+    ExitCode::from(u8::from(!kept))
 }

@@ -3,8 +3,8 @@
 //!
 //!     cuts
 
+use harness::layout::{REPLY_BYTES, STATE_BYTES};
 use harness::library::LIBRARY;
-use harness::replica::{REPLY_BYTES, STATE_BYTES};
 use std::ffi::{c_int, c_long, c_void};
 use std::sync::atomic::{AtomicU8, Ordering};
 
@@ -78,10 +78,15 @@ fn each_cut(state: &mut [u8], record: &[u8], mut show: impl FnMut(&[u8])) {
     assert_eq!(phase[0], 2, "the call did not end");
 }
 
+/// The first record of a stream, which ends where its body length says, and what follows it.
+fn split(stream: &[u8]) -> (&[u8], &[u8]) {
+    stream.split_at(8 + usize::from(u16::from_be_bytes([stream[2], stream[3]])))
+}
+
 fn main() {
     let (mut state, mut reply) = (vec![0; STATE_BYTES], vec![0; REPLY_BYTES]);
-    let stream = include_bytes!("../../../crates/cabinet/stdin");
-    let [first, second, third] = [&stream[..9], &stream[9..50], &stream[50..]];
+    let (first, rest) = split(include_bytes!("../../../crates/cabinet/stdin"));
+    let (second, third) = split(rest);
     (LIBRARY.fresh)(&mut state);
     for record in [first, second] {
         (LIBRARY.take)(&mut state, record, &mut reply);
