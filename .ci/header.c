@@ -22,10 +22,10 @@ IS(fields, offsetof(replica_addition, fields) == 16);
 IS(six, sizeof(((replica_addition *)0)->fields) == 6 * sizeof(replica_field));
 IS(addition, sizeof(replica_addition) == 64);
 
-/* Two branches: true, then move from 1 to 2 of any name alone; rd(3, metres 1.0, whole into 9). */
+/* Two branches: true, then move from 256 to 65,535 of any name alone; rd(3, metres 1.0, whole into 9). */
 static int writer(void)
 {
-    static const uint8_t expected[] = {2, 1, 4, 2, 0, 1, 6, 1, 2, 1, 5, 1, 3, 3, 2, 0, 2, 0x3F, 0x80, 0, 0, 1, 0, 9, 0};
+    static const uint8_t expected[] = {2, 1, 4, 2, 0, 1, 6, 1, 0, 255, 255, 1, 5, 1, 3, 0, 3, 2, 0, 2, 0x3F, 0x80, 0, 0, 1, 0, 9, 0};
     uint8_t body[REPLICA_BODY_BYTES];
     size_t fill = 0;
     replica_addition first, move, rd;
@@ -34,8 +34,8 @@ static int writer(void)
     memset(&rd, 0, sizeof rd);
     first.code = REPLICA_CODE_TRUE;
     move.code = REPLICA_CODE_MOVE;
-    move.from = 1;
-    move.to = 2;
+    move.from = 256;
+    move.to = 65535;
     move.count = 1;
     move.fields[0].form = REPLICA_FORM_ANONYMOUS;
     move.fields[0].kind = REPLICA_KIND_NAME;

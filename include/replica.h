@@ -50,16 +50,16 @@ extern "C" {
 
 /*
  * The number of the bytes and of their meaning. Whatever changes a byte of a record, a reply or a state, or what one
- * means, raises it; 1 is document 01's. replica_layout returns the library's own: at a fit-up compare it with the
- * header's, and between cabinets. Cabinets whose numbers differ must not read one stream, nor copy a state from each
- * other.
+ * means, raises it; 1 is document 01's, 2 has space numbers of two bytes. replica_layout returns the library's own: at
+ * a fit-up compare it with the header's, and between cabinets. Cabinets whose numbers differ must not read one stream,
+ * nor copy a state from each other: a record of layout 1 can pass for another one of layout 2.
  */
-#define REPLICA_LAYOUT 1
+#define REPLICA_LAYOUT 2
 uint64_t replica_layout(void);
 
-#define REPLICA_STATE_BYTES 24768 /* a state buffer has exactly this length */
+#define REPLICA_STATE_BYTES 25312 /* a state buffer has exactly this length */
 #define REPLICA_REPLY_BYTES 3564  /* a reply buffer has at least this length; no call replies more */
-#define REPLICA_STACK_BYTES 40960 /* a call used at most 36,320, measured by painting; the rest is reserve */
+#define REPLICA_STACK_BYTES 40960 /* a call used at most 37,428, measured by painting; the rest is reserve */
 
 /*
  * What replica_take returns where it turned the call back: no byte of any buffer has changed. They are tried in this
@@ -90,14 +90,14 @@ uint64_t replica_fresh(uint8_t *state, size_t state_length);
  *   RV    host (1, 0 to 15): the host is up
  *   CR    host (1): it has crashed
  *   MO    host (1), process (2): a new monitor number
- *   MS    host (1), process (2), kind (1, or absent: shared): opens the next space number
- *   DS    host (1), process (2), space (1): closes the space, with its tuples
+ *   MS    host (1), process (2), kind (1, or absent: shared): opens the next space number, 1 to 65,535
+ *   DS    host (1), process (2), space (2): closes the space, with its tuples
  *   AG    a statement of at most REPLICA_BODY_BYTES, as the writer below makes them
  *
  * Positions go from 1 to 4,294,967,295; after the last no record is taken.
  *
  * A call that was cut (power lost, task stopped) may leave any bytes, and most of what it leaves passes as a state: a
- * call that wakes a statement was stopped after each of its 42,157 instructions, and at 84 percent of them the buffer
+ * call that wakes a statement was stopped after each of its 43,387 instructions, and at 84 percent of them the buffer
  * would have been taken for a state, though it was neither the one before nor the one after. Do not go on from it.
  * Only two restarts are right: replica_fresh, or a whole copy of a state that another replica held between calls.
  */
@@ -145,7 +145,7 @@ uint64_t replica_take(uint8_t *state, size_t state_length, const uint8_t *record
 #define REPLICA_OUTCOME_SPACE_DENIED 11   /* DS AG: a space that is named is private to another process */
 #define REPLICA_OUTCOME_TUPLES_FULL 12    /* CR AG: there would be more than 512 tuples */
 #define REPLICA_OUTCOME_WAITING_FULL 13   /* AG: the statement would wait, and 32 wait */
-#define REPLICA_OUTCOME_USED_UP 14        /* MO MS: 8 monitors, 32 open spaces, or space number 255, are used up */
+#define REPLICA_OUTCOME_USED_UP 14        /* MO MS: 8 monitors, 32 open spaces, or all space numbers, are used up */
 #define REPLICA_OUTCOME_SPACE_IN_USE 15   /* DS: it is space 0, or a waiting statement names it */
 #define REPLICA_OUTCOME_NO_MATCH 16       /* AG: an in or rd of the body has no match */
 #define REPLICA_OUTCOME_OFF_RANGE 17      /* AG: a sum or difference is off the range, or not finite */
@@ -199,8 +199,8 @@ typedef char replica_field_has_8_bytes[sizeof(replica_field) == 8 ? 1 : -1];
 #define REPLICA_CODE_COPY 7 /* operation: from, to, count 0 to 6 */
 
 /*
- * An addition: a guard or an operation. from is the space of codes 1 to 5. A space above 255 or another count is
- * REPLICA_MALFORMED.
+ * An addition: a guard or an operation. from is the space of codes 1 to 5. Spaces are 0 to 65,535, open or not; a count
+ * that its code does not have is REPLICA_MALFORMED.
  */
 typedef struct {
     uint8_t code;

@@ -47,20 +47,20 @@ static int operation(replica_addition addition)
     return replica_operation(body, REPLICA_BODY_BYTES, &fill, addition) == 0;
 }
 
-/* in(0, name 7, whole into 0) then out(0, name 7, variable 0 plus 1): 33 bytes. */
+/* in(0, name 7, whole into 0) then out(0, name 7, variable 0 plus 1): 35 bytes. */
 static int write_add_one(void)
 {
     replica_field into_0 = {.form = REPLICA_FORM_FORMAL, .kind = REPLICA_KIND_WHOLE, .variable = 0};
     replica_field plus_1 = {.form = REPLICA_FORM_SUM, .kind = REPLICA_KIND_WHOLE, .variable = 0, .bits = 1};
     return begin(5, on_name_7(REPLICA_CODE_IN, into_0)) && operation(on_name_7(REPLICA_CODE_OUT, plus_1)) &&
-           fill == 33;
+           fill == 35;
 }
 
-/* true then out(0, name 7, 41): 21 bytes. */
+/* true then out(0, name 7, 41): 22 bytes. */
 static int write_put_41(void)
 {
     replica_field number_41 = {.form = REPLICA_FORM_ACTUAL, .kind = REPLICA_KIND_WHOLE, .bits = 41};
-    return begin(6, always) && operation(on_name_7(REPLICA_CODE_OUT, number_41)) && fill == 21;
+    return begin(6, always) && operation(on_name_7(REPLICA_CODE_OUT, number_41)) && fill == 22;
 }
 
 /* A variable that no earlier operation binds: refused, and the body stands as before. */

@@ -17,23 +17,23 @@ static const uint8_t host_up[] = {
 };
 
 static const uint8_t add_one[] = {
-    'A', 'G', 0, 33, 0, 0, 0, 2,
+    'A', 'G', 0, 35, 0, 0, 0, 2,
     2, 0, 5, 1,                    /* host, process, one branch */
-    1, 0, 2,                       /* guard: in, space 0, two fields */
+    1, 0, 0, 2,                    /* guard: in, space 0, two fields */
     0, 1, 0, 0, 0, 7,              /*   the name 7 */
     1, 0, 0,                       /*   a whole number, into variable 0 */
     1,                             /* one operation */
-    5, 0, 2,                       /* out, space 0, two fields */
+    5, 0, 0, 2,                    /* out, space 0, two fields */
     0, 1, 0, 0, 0, 7,              /*   the name 7 */
     3, 0, 0, 0, 0, 0, 1,           /*   variable 0 plus the whole number 1 */
 };
 
 static const uint8_t put_41[] = {
-    'A', 'G', 0, 21, 0, 0, 0, 3,
+    'A', 'G', 0, 22, 0, 0, 0, 3,
     2, 0, 6, 1,                    /* host, process, one branch */
     0,                             /* guard: true */
     1,                             /* one operation */
-    5, 0, 2,                       /* out, space 0, two fields */
+    5, 0, 0, 2,                    /* out, space 0, two fields */
     0, 1, 0, 0, 0, 7,              /*   the name 7 */
     0, 0, 0, 0, 0, 41,             /*   the whole number 41 */
 };
