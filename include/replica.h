@@ -51,8 +51,9 @@ extern "C" {
 /*
  * The number of the bytes and of their meaning. Whatever changes a byte of a record, a reply or a state, or what one
  * means, raises it; 1 is document 01's, 2 has space numbers of two bytes. replica_layout returns the library's own: at
- * a fit-up compare it with the header's, and between cabinets. Cabinets whose numbers differ must not read one stream,
- * nor copy a state from each other: a record of layout 1 can pass for another one of layout 2.
+ * a fit-up compare it with the header's, and between cabinets and desks. A desk must not write for cabinets of another
+ * number, nor may cabinets whose numbers differ read one stream or copy a state from each other: a record of layout 1
+ * can pass for another one of layout 2.
  */
 #define REPLICA_LAYOUT 2
 uint64_t replica_layout(void);
@@ -145,7 +146,7 @@ uint64_t replica_take(uint8_t *state, size_t state_length, const uint8_t *record
 #define REPLICA_OUTCOME_SPACE_DENIED 11   /* DS AG: a space that is named is private to another process */
 #define REPLICA_OUTCOME_TUPLES_FULL 12    /* CR AG: there would be more than 512 tuples */
 #define REPLICA_OUTCOME_WAITING_FULL 13   /* AG: the statement would wait, and 32 wait */
-#define REPLICA_OUTCOME_USED_UP 14        /* MO MS: 8 monitors, 32 open spaces, or all space numbers, are used up */
+#define REPLICA_OUTCOME_USED_UP 14        /* MO MS: 8 monitors, 32 open spaces, or space number 65,535, are used up */
 #define REPLICA_OUTCOME_SPACE_IN_USE 15   /* DS: it is space 0, or a waiting statement names it */
 #define REPLICA_OUTCOME_NO_MATCH 16       /* AG: an in or rd of the body has no match */
 #define REPLICA_OUTCOME_OFF_RANGE 17      /* AG: a sum or difference is off the range, or not finite */

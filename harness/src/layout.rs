@@ -1,5 +1,5 @@
-//! Where the bytes of a state stand, written by hand from document 01 and its change L1. The second implementation
-//! has names of its own.
+//! Where the bytes of a state stand, written by hand from document 01 and request L1 of document 02. The second
+//! implementation has names of its own.
 
 use std::ops::Range;
 

@@ -1,4 +1,4 @@
-//! The ends of every range and table, with the values that document 01 and its change L1 give.
+//! The ends of every range and table, with the values that document 01 and request L1 of document 02 give.
 
 use harness::hex::{record, unhex};
 use harness::layout::{set_next, space, HOSTS, LAST, NEXT, REPLY_BYTES, SPACE_COUNT_AT};

@@ -1,4 +1,4 @@
--- Made by tools/cases. The table of worked cases: records as bytes, and what document 01 says that they show; "starred" are the cases that it marks. Assumes nothing.
+-- Made by tools/cases. The table of worked cases: records as bytes, and what documents 01 and 02 say that they show; "starred" are the cases that document 01 marks. Assumes nothing.
 use Prim.Native.Nat.{ℕ}
 use mathlib.Core.Path.{_≡_, refl}
 use mathlib.Core.List.{List, [], _∷_, map}
@@ -923,14 +923,16 @@ table =
           ∷ (77 ∷ 83 ∷ 0 ∷ 4 ∷ 0 ∷ 0 ∷ 0 ∷ 7 ∷ 2 ∷ 0 ∷ 5 ∷ 2 ∷ [])
           -- a spare byte after the kind
           ∷ (77 ∷ 83 ∷ 0 ∷ 5 ∷ 0 ∷ 0 ∷ 0 ∷ 8 ∷ 2 ∷ 0 ∷ 5 ∷ 1 ∷ 0 ∷ [])
+          -- no space
+          ∷ (68 ∷ 83 ∷ 0 ∷ 3 ∷ 0 ∷ 0 ∷ 0 ∷ 9 ∷ 2 ∷ 0 ∷ 5 ∷ [])
           -- a space of one byte
-          ∷ (68 ∷ 83 ∷ 0 ∷ 4 ∷ 0 ∷ 0 ∷ 0 ∷ 9 ∷ 2 ∷ 0 ∷ 5 ∷ 0 ∷ [])
+          ∷ (68 ∷ 83 ∷ 0 ∷ 4 ∷ 0 ∷ 0 ∷ 0 ∷ 10 ∷ 2 ∷ 0 ∷ 5 ∷ 0 ∷ [])
           -- a spare byte
-          ∷ (68 ∷ 83 ∷ 0 ∷ 6 ∷ 0 ∷ 0 ∷ 0 ∷ 10 ∷ 2 ∷ 0 ∷ 5 ∷ 0 ∷ 0 ∷ 0 ∷ [])
+          ∷ (68 ∷ 83 ∷ 0 ∷ 6 ∷ 0 ∷ 0 ∷ 0 ∷ 11 ∷ 2 ∷ 0 ∷ 5 ∷ 0 ∷ 0 ∷ 0 ∷ [])
           -- host 16
-          ∷ (68 ∷ 83 ∷ 0 ∷ 5 ∷ 0 ∷ 0 ∷ 0 ∷ 11 ∷ 16 ∷ 0 ∷ 5 ∷ 0 ∷ 0 ∷ [])
+          ∷ (68 ∷ 83 ∷ 0 ∷ 5 ∷ 0 ∷ 0 ∷ 0 ∷ 12 ∷ 16 ∷ 0 ∷ 5 ∷ 0 ∷ 0 ∷ [])
           -- host 15 is well-formed
-          ∷ (82 ∷ 86 ∷ 0 ∷ 1 ∷ 0 ∷ 0 ∷ 0 ∷ 12 ∷ 15 ∷ [])
+          ∷ (82 ∷ 86 ∷ 0 ∷ 1 ∷ 0 ∷ 0 ∷ 0 ∷ 13 ∷ 15 ∷ [])
           ∷ [];
       shows = record {
         answers = replies (82 ∷ 80 ∷ 0 ∷ 0 ∷ 0 ∷ 1 ∷ 255 ∷ 255 ∷ 255 ∷ 6 ∷ 0 ∷ 0 ∷ [])
@@ -944,7 +946,8 @@ table =
             ∷ replies (82 ∷ 80 ∷ 0 ∷ 0 ∷ 0 ∷ 9 ∷ 255 ∷ 255 ∷ 255 ∷ 6 ∷ 0 ∷ 0 ∷ [])
             ∷ replies (82 ∷ 80 ∷ 0 ∷ 0 ∷ 0 ∷ 10 ∷ 255 ∷ 255 ∷ 255 ∷ 6 ∷ 0 ∷ 0 ∷ [])
             ∷ replies (82 ∷ 80 ∷ 0 ∷ 0 ∷ 0 ∷ 11 ∷ 255 ∷ 255 ∷ 255 ∷ 6 ∷ 0 ∷ 0 ∷ [])
-            ∷ replies (82 ∷ 80 ∷ 0 ∷ 0 ∷ 0 ∷ 12 ∷ 15 ∷ 0 ∷ 0 ∷ 0 ∷ 0 ∷ 1 ∷ 0 ∷ 0 ∷ 0 ∷ 0 ∷ 0 ∷ 1 ∷ [])
+            ∷ replies (82 ∷ 80 ∷ 0 ∷ 0 ∷ 0 ∷ 12 ∷ 255 ∷ 255 ∷ 255 ∷ 6 ∷ 0 ∷ 0 ∷ [])
+            ∷ replies (82 ∷ 80 ∷ 0 ∷ 0 ∷ 0 ∷ 13 ∷ 15 ∷ 0 ∷ 0 ∷ 0 ∷ 0 ∷ 1 ∷ 0 ∷ 0 ∷ 0 ∷ 0 ∷ 0 ∷ 1 ∷ [])
             ∷ [];
         tupleCount = 0;
         tuples = [];
@@ -1038,7 +1041,7 @@ table =
         spaces = record { number = 0; access = shared } ∷ [];
       };
     }
-    -- 10: 256 and 512 are not space 0, and 257 is not space 1: an out, both ends of a move, DS; 65,535 is no more open than they
+    -- 10: 256 and 512 are not space 0, and 257 is not space 1: an out, a move's source, a copy's target, DS; 65,535 is no more open than they
     ∷ record {
       stream = (82 ∷ 86 ∷ 0 ∷ 1 ∷ 0 ∷ 0 ∷ 0 ∷ 1 ∷ 2 ∷ [])
           ∷ (77 ∷ 83 ∷ 0 ∷ 3 ∷ 0 ∷ 0 ∷ 0 ∷ 2 ∷ 2 ∷ 0 ∷ 5 ∷ [])
@@ -1049,7 +1052,9 @@ table =
           -- not 15, as DS 0 is
           ∷ (68 ∷ 83 ∷ 0 ∷ 5 ∷ 0 ∷ 0 ∷ 0 ∷ 7 ∷ 2 ∷ 0 ∷ 5 ∷ 1 ∷ 0 ∷ [])
           ∷ (65 ∷ 71 ∷ 0 ∷ 15 ∷ 0 ∷ 0 ∷ 0 ∷ 8 ∷ 2 ∷ 0 ∷ 5 ∷ 1 ∷ 2 ∷ 255 ∷ 255 ∷ 1 ∷ 0 ∷ 1 ∷ 0 ∷ 0 ∷ 0 ∷ 1 ∷ 0 ∷ [])
-          ∷ (65 ∷ 71 ∷ 0 ∷ 22 ∷ 0 ∷ 0 ∷ 0 ∷ 9 ∷ 2 ∷ 0 ∷ 5 ∷ 1 ∷ 0 ∷ 2 ∷ 5 ∷ 0 ∷ 1 ∷ 1 ∷ 0 ∷ 1 ∷ 0 ∷ 0 ∷ 0 ∷ 1 ∷ 6 ∷ 0 ∷ 1 ∷ 0 ∷ 0 ∷ 0 ∷ [])
+          -- a copy to 261; with spaces of one byte it was one within 0, of the tuples with one whole number
+          ∷ (65 ∷ 71 ∷ 0 ∷ 12 ∷ 0 ∷ 0 ∷ 0 ∷ 9 ∷ 2 ∷ 0 ∷ 5 ∷ 1 ∷ 0 ∷ 1 ∷ 7 ∷ 0 ∷ 0 ∷ 1 ∷ 5 ∷ 0 ∷ [])
+          ∷ (65 ∷ 71 ∷ 0 ∷ 22 ∷ 0 ∷ 0 ∷ 0 ∷ 10 ∷ 2 ∷ 0 ∷ 5 ∷ 1 ∷ 0 ∷ 2 ∷ 5 ∷ 0 ∷ 1 ∷ 1 ∷ 0 ∷ 1 ∷ 0 ∷ 0 ∷ 0 ∷ 1 ∷ 6 ∷ 0 ∷ 1 ∷ 0 ∷ 0 ∷ 0 ∷ [])
           ∷ [];
       shows = record {
         answers = replies (82 ∷ 80 ∷ 0 ∷ 0 ∷ 0 ∷ 1 ∷ 2 ∷ 0 ∷ 0 ∷ 0 ∷ 0 ∷ 1 ∷ 0 ∷ 0 ∷ 0 ∷ 0 ∷ 0 ∷ 1 ∷ [])
@@ -1060,7 +1065,8 @@ table =
             ∷ replies (82 ∷ 80 ∷ 0 ∷ 0 ∷ 0 ∷ 6 ∷ 2 ∷ 0 ∷ 5 ∷ 10 ∷ 0 ∷ 0 ∷ [])
             ∷ replies (82 ∷ 80 ∷ 0 ∷ 0 ∷ 0 ∷ 7 ∷ 2 ∷ 0 ∷ 5 ∷ 10 ∷ 0 ∷ 0 ∷ [])
             ∷ replies (82 ∷ 80 ∷ 0 ∷ 0 ∷ 0 ∷ 8 ∷ 2 ∷ 0 ∷ 5 ∷ 10 ∷ 0 ∷ 0 ∷ [])
-            ∷ replies (82 ∷ 80 ∷ 0 ∷ 0 ∷ 0 ∷ 9 ∷ 2 ∷ 0 ∷ 5 ∷ 0 ∷ 1 ∷ 0 ∷ [])
+            ∷ replies (82 ∷ 80 ∷ 0 ∷ 0 ∷ 0 ∷ 9 ∷ 2 ∷ 0 ∷ 5 ∷ 10 ∷ 0 ∷ 0 ∷ [])
+            ∷ replies (82 ∷ 80 ∷ 0 ∷ 0 ∷ 0 ∷ 10 ∷ 2 ∷ 0 ∷ 5 ∷ 0 ∷ 1 ∷ 0 ∷ [])
             ∷ [];
         tupleCount = 1;
         tuples = record { space = 0; values = value 1 1 ∷ [] } ∷ [];
@@ -1503,6 +1509,10 @@ table =
           ∷ (65 ∷ 71 ∷ 0 ∷ 0 ∷ 0 ∷ 0 ∷ 0 ∷ 6 ∷ [])
           -- host 16
           ∷ (65 ∷ 71 ∷ 0 ∷ 6 ∷ 0 ∷ 0 ∷ 0 ∷ 7 ∷ 16 ∷ 0 ∷ 5 ∷ 1 ∷ 0 ∷ 0 ∷ [])
+          -- cut in a space number
+          ∷ (65 ∷ 71 ∷ 0 ∷ 6 ∷ 0 ∷ 0 ∷ 0 ∷ 8 ∷ 2 ∷ 0 ∷ 5 ∷ 1 ∷ 1 ∷ 0 ∷ [])
+          -- cut in the second one of a move
+          ∷ (65 ∷ 71 ∷ 0 ∷ 10 ∷ 0 ∷ 0 ∷ 0 ∷ 9 ∷ 2 ∷ 0 ∷ 5 ∷ 1 ∷ 0 ∷ 1 ∷ 6 ∷ 0 ∷ 0 ∷ 0 ∷ [])
           ∷ [];
       shows = record {
         answers = replies (82 ∷ 80 ∷ 0 ∷ 0 ∷ 0 ∷ 1 ∷ 2 ∷ 0 ∷ 5 ∷ 7 ∷ 0 ∷ 0 ∷ [])
@@ -1512,6 +1522,8 @@ table =
             ∷ replies (82 ∷ 80 ∷ 0 ∷ 0 ∷ 0 ∷ 5 ∷ 255 ∷ 255 ∷ 255 ∷ 6 ∷ 0 ∷ 0 ∷ [])
             ∷ replies (82 ∷ 80 ∷ 0 ∷ 0 ∷ 0 ∷ 6 ∷ 255 ∷ 255 ∷ 255 ∷ 6 ∷ 0 ∷ 0 ∷ [])
             ∷ replies (82 ∷ 80 ∷ 0 ∷ 0 ∷ 0 ∷ 7 ∷ 255 ∷ 255 ∷ 255 ∷ 6 ∷ 0 ∷ 0 ∷ [])
+            ∷ replies (82 ∷ 80 ∷ 0 ∷ 0 ∷ 0 ∷ 8 ∷ 255 ∷ 255 ∷ 255 ∷ 6 ∷ 0 ∷ 0 ∷ [])
+            ∷ replies (82 ∷ 80 ∷ 0 ∷ 0 ∷ 0 ∷ 9 ∷ 255 ∷ 255 ∷ 255 ∷ 6 ∷ 0 ∷ 0 ∷ [])
             ∷ [];
         tupleCount = 0;
         tuples = [];

@@ -1,1 +1,1 @@
-// The worked cases of document 01: one theorem over a table, in specs/ alone.
+// The worked cases of documents 01 and 02: one theorem over a table, in specs/ alone.

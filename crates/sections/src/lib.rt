@@ -5,7 +5,7 @@ ghost use mathlib.Core.List.{[], _∷_, _++_};
 ghost use lib.ListN.{length};
 ghost use Rattle.basis.specs.Lists.{keep, pad, pieces, removeAt};
 ghost use Rattle.basis.specs.Numbers.{numberAt};
-ghost use Rattle.basis.specs.Sizes.{mostWidth};
+ghost use Rattle.basis.specs.Sizes.{mostWidth, mostRow};
 ghost use Rattle.sections.specs.Rows.{Rows, Section, lacks, HasRows};
 
 // The row at index i cut out: the later ones moved down, the last one's bytes cleared.
@@ -35,7 +35,7 @@ pub fn field(rows: &[u8], size: usize, n: usize, i: usize, at: usize, w: usize) 
 
 // The rows that have another number in that place, in their order; how many.
 pub fn drop_rows(rows: &mut [u8], size: usize, n: usize, at: usize, w: usize, value: u32) -> usize
-    requires { ⌜ Section size (now rows) n × (at + w ≤ size) × (w ≤ mostWidth) ⌝ }
+    requires { ⌜ Section size (now rows) n × (at + w ≤ size) × (w ≤ mostWidth) × (size ≤ mostRow) ⌝ }
     ensures { λ r. ⌜ Rows (length (now (rows .entry))) size (now (rows .exit)) r (keep (lacks at w value) (pieces n size (now (rows .entry)))) ⌝ }
 {
     let mut m = 0;
@@ -44,7 +44,7 @@ pub fn drop_rows(rows: &mut [u8], size: usize, n: usize, at: usize, w: usize, va
         if field(rows, size, n, next, at, w) == value {
             next += 1;
         } else {
-            spans::move_down(rows, m * size, next * size, size);
+            spans::move_row(rows, m * size, next * size, size);
             m += 1;
             next += 1;
         }

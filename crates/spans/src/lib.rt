@@ -3,6 +3,7 @@ ghost use mathlib.Core.Path.{_≡_};
 ghost use Prim.Native.Nat.{_+_, _≤_};
 ghost use lib.ListN.{length, drop};
 ghost use Rattle.basis.specs.Lists.{zeros};
+ghost use Rattle.basis.specs.Sizes.{mostRow};
 ghost use Rattle.words.specs.Over.{over, zerosAt};
 
 // n bytes of s, those from index from on, over d's from index at on.
@@ -25,19 +26,30 @@ pub fn copy_at(d: &mut [u8], at: usize, s: &[u8])
     copy_part(d, at, s, 0, s.len());
 }
 
-// The n bytes from index from on, moved to index to, which is not above from. What stands where it goes is not moved byte by byte.
+// The n bytes from index from on, moved to index to, which is not above from.
 pub fn move_down(a: &mut [u8], to: usize, from: usize, n: usize)
     requires { ⌜ (to ≤ from) × (from + n ≤ length (now a)) ⌝ }
     ensures { λ _. ⌜ now (a .exit) ≡ over (now (a .entry)) to (drop from (now (a .entry))) n ⌝ }
 {
-    if to == from {
-        return;
-    }
     let mut i = 0;
     while i < n {
         a[to + i] = a[from + i];
         i += 1;
     }
+}
+
+// The same of a row, whose n is known when it is compiled: by way of a copy, since then it is not moved byte by byte where its size is odd. A
+// row that stands where it goes is left.
+pub fn move_row(a: &mut [u8], to: usize, from: usize, n: usize)
+    requires { ⌜ (to ≤ from) × (from + n ≤ length (now a)) × (n ≤ mostRow) ⌝ }
+    ensures { λ _. ⌜ now (a .exit) ≡ over (now (a .entry)) to (drop from (now (a .entry))) n ⌝ }
+{
+    if to == from {
+        return;
+    }
+    let mut row = [0u8; words::MOST_ROW];
+    copy_part(&mut row, 0, a, from, n);
+    copy_part(a, to, &row, 0, n);
 }
 
 // n zeros from index at on: "All unused bytes are zero".

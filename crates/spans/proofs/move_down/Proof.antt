@@ -1,10 +1,10 @@
 -- `spans::move_down` meets its contract. Assumes nothing.
-use mathlib.Core.Path.{_≡_, sym}
+use mathlib.Core.Path.{_≡_}
 use Prim.Native.Nat.{_-_, _≤_}
 use native.Mathlib.Omega.{arith}
 use lib.ListN.{length, drop, length-set}
 use Rattle.words.specs.Over.{over}
-use Rattle.words.specs.OverLaws.{over-none, over-down, over-own}
+use Rattle.words.specs.OverLaws.{over-none, over-down}
 use borrow.Author.Needs.{needs}
 use Rattle.spans.proofs.move_down.Statement.{statement}
 use Rattle.spans.proofs.move_down.Tie as tie
@@ -14,11 +14,6 @@ Inv-loop a₀ to from n i₀ a i = (i ≤ n) × (length a ≡ length a₀) × (a
 
 abbrev μ-loop : tie.MeasureT-loop
 μ-loop a₀ to from n i₀ a i = n - i
-
-returns : tie.Need-returns Inv-loop μ-loop
-returns c =
-    let a = c .before .args in
-    sym (rw (c .if1 .taken) (over-own (a .a .now) (a .from) (a .n)))
 
 loop-holds : tie.Need-loop-holds Inv-loop μ-loop
 loop-holds c = (omega arith, omega arith, over-none _ _ _)
@@ -44,17 +39,17 @@ loop-less c = search needs
 loop-again : tie.Need-loop-again Inv-loop μ-loop
 loop-again c =
     let h = c .before .before .loop in
-    let a = c .before .before .before .before .args in
+    let a = c .before .before .before .args in
     let l : length (h .a) ≡ length (a .a .now) = omega arith in
     (omega arith, simp length-set l, rw (h .inv .2) (over-down (a .a .now) (a .to) (a .from) (h .i) (omega arith) (omega arith)))
 
 same-length : tie.Need-same-length Inv-loop μ-loop
 same-length c = search needs
 
-returns-2 : tie.Need-returns-2 Inv-loop μ-loop
-returns-2 c =
+returns : tie.Need-returns Inv-loop μ-loop
+returns c =
     let h = c .before .loop in
-    let e : h .i ≡ c .before .before .before .args .n = omega arith in
+    let e : h .i ≡ c .before .before .args .n = omega arith in
     rw e at (h .inv .2)
 
 pub move-down-spec : {M : Type 1} → statement M
@@ -63,7 +58,6 @@ move-down-spec =
     (tie.spec
     Inv-loop
     μ-loop
-    returns
     loop-holds
     add-a
     slice-read-a
@@ -73,4 +67,4 @@ move-down-spec =
     loop-less
     loop-again
     same-length
-    returns-2)
+    returns)
