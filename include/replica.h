@@ -93,12 +93,16 @@ uint64_t replica_fresh(uint8_t *state, size_t state_length);
  *   MO    host (1), process (2): a new monitor number
  *   MS    host (1), process (2), kind (1, or absent: shared): opens the next space number, 1 to 65,535
  *   DS    host (1), process (2), space (2): closes the space, with its tuples
- *   AG    a statement of at most REPLICA_BODY_BYTES, as the writer below makes them
+ *   AG    a statement of at most REPLICA_BODY_BYTES, as the writer below makes them: host (1), process (2), count of
+ *         branches (1), branches. A branch is a guard, a count of operations (1), and these. A guard or operation is
+ *         a code (1); then space (2) for codes 1 to 5, from (2) and to (2) for 6 and 7; then, but for 0, a count of
+ *         fields (1), and these. A field is a form (1), then the parts of the form in the order in which they are
+ *         named below: kind (1), variable (1), bits (4)
  *
  * Positions go from 1 to 4,294,967,295; after the last no record is taken.
  *
  * A call that was cut (power lost, task stopped) may leave any bytes, and most of what it leaves passes as a state: a
- * call that wakes a statement was stopped after each of its 43,387 instructions, and at 84 percent of them the buffer
+ * call that wakes a statement was stopped after each of its 43,387 instructions, and at 85 percent of them the buffer
  * would have been taken for a state, though it was neither the one before nor the one after. Do not go on from it.
  * Only two restarts are right: replica_fresh, or a whole copy of a state that another replica held between calls.
  */

@@ -1041,7 +1041,7 @@ table =
         spaces = record { number = 0; access = shared } ∷ [];
       };
     }
-    -- 10: 256 and 512 are not space 0, and 257 is not space 1: an out, a move's source, a copy's target, DS; 65,535 is no more open than they
+    -- 10: 256 and 512 are not space 0, and 257 is not space 1: an out, a move's source, a copy's target, DS; nor are 261 and 65,535 open
     ∷ record {
       stream = (82 ∷ 86 ∷ 0 ∷ 1 ∷ 0 ∷ 0 ∷ 0 ∷ 1 ∷ 2 ∷ [])
           ∷ (77 ∷ 83 ∷ 0 ∷ 3 ∷ 0 ∷ 0 ∷ 0 ∷ 2 ∷ 2 ∷ 0 ∷ 5 ∷ [])

@@ -38,8 +38,8 @@ pub fn move_down(a: &mut [u8], to: usize, from: usize, n: usize)
     }
 }
 
-// The same of a row, whose n is known when it is compiled: by way of a copy, since then it is not moved byte by byte where its size is odd. A
-// row that stands where it goes is left.
+// The same of one row, by way of a copy: where n is a constant, the compiler then moves it in few steps also where n is odd. A row that stands
+// where it goes is left.
 pub fn move_row(a: &mut [u8], to: usize, from: usize, n: usize)
     requires { ⌜ (to ≤ from) × (from + n ≤ length (now a)) × (n ≤ mostRow) ⌝ }
     ensures { λ _. ⌜ now (a .exit) ≡ over (now (a .entry)) to (drop from (now (a .entry))) n ⌝ }

@@ -1,5 +1,5 @@
-//! Times calls of the library. The unit is the time that reading a state once takes, 8 bytes at a time: one pass over
-//! all its bytes that sums them up, timed in the same run.
+//! Times calls of the library. The unit is the time that reading a state once takes: one pass over all its bytes that
+//! sums them up in words of 8, timed in the same run.
 //!
 //!     bench [SAMPLES]
 //!     bench --limits [SAMPLES]   the checks of states that have a limit alone
@@ -216,7 +216,7 @@ fn print_program() {
 fn print_all(samples: usize) -> bool {
     let clock = clock();
     let unit = unit(samples, clock);
-    println!("A unit is the time of reading a state once: a pass over {STATE_BYTES} bytes, 8 at a time, that sums them up.");
+    println!("A unit is the time of reading a state once: a pass over {STATE_BYTES} bytes that sums them up in words of 8.");
     println!("Here it is {:.0} ns at least, {:.0} ns in the median.\n", unit.least, unit.median);
     print_taken(&rows::taken(), samples, unit.least, clock);
     print_refused(&rows::refused(), samples, unit.least, clock);

@@ -106,5 +106,5 @@ fn main() {
     });
     println!("{cuts} instructions, after each of which the call was stopped");
     println!("{passing} after which the buffer passes as a state");
-    println!("{strangers} ({} percent) after which it does, and is no state of the run", strangers * 100 / cuts);
+    println!("{strangers} ({} percent) after which it does, and is no state of the run", (strangers * 200 + cuts) / (cuts * 2));
 }
