@@ -67,6 +67,13 @@ fn tuple_bytes(tuple: &Tuple) -> Vec<u8> {
     bytes
 }
 
+/// The whole entry of a tuple, its unused bytes zero.
+pub fn tuple_entry(tuple: &Tuple) -> Vec<u8> {
+    let mut bytes = tuple_bytes(tuple);
+    bytes.resize(TUPLE_BYTES, 0);
+    bytes
+}
+
 fn waiting_bytes(entry: &Waiting) -> Vec<u8> {
     let body = statement::write(&entry.statement);
     let mut bytes = entry.position.to_be_bytes().to_vec();

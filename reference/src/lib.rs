@@ -1,10 +1,11 @@
-//! A reference implementation of the replicated tuple space of document 01, with L1 of document 02.
+//! A reference implementation of the replicated tuple space of document 01, with L1 and L2 of document 02.
 //! It works on plain lists; bytes are read to lists and written back.
 
 pub mod call;
 pub mod generate;
 pub mod layout;
 pub mod lines;
+pub mod matching;
 pub mod run;
 pub mod statement;
 pub mod value;

@@ -1,5 +1,6 @@
 //! The one-by-one run on plain lists: one step for each record taken.
 
+use crate::matching::{first_failing, value_of, Failing};
 use crate::statement::{self, Field, Operation, SpaceNumber, Statement};
 use crate::statement::{COPY, IN, INP, MOVE, OUT, RD, RDP, TRUE};
 use crate::value::{name, whole, Value};
@@ -149,27 +150,12 @@ pub enum Ending {
 
 // ---- Templates and operations ----
 
-fn value_of(variable: u8, bound: &[(u8, Value)]) -> Option<Value> {
-    bound.iter().find(|(other, _)| *other == variable).map(|(_, value)| *value)
-}
-
-fn fits(field: &Field, value: &Value, bound: &[(u8, Value)]) -> bool {
-    match field {
-        Field::Given(given) => given == value,
-        Field::Bind { kind, .. } | Field::Any { kind } => *kind == value.kind,
-        Field::Use { variable } => value_of(*variable, bound) == Some(*value),
-        Field::Plus { .. } | Field::Minus { .. } => false,
-    }
-}
-
-/// Rule 1: space, field count, kinds and given values agree.
-/// A move or copy without fields matches every tuple of its source.
-fn matches(operation: &Operation, tuple: &Tuple, bound: &[(u8, Value)]) -> bool {
-    let fields = &operation.fields;
-    let every = matches!(operation.code, MOVE | COPY) && fields.is_empty();
-    let agree = fields.len() == tuple.values.len()
-        && fields.iter().zip(&tuple.values).all(|(field, value)| fits(field, value, bound));
-    tuple.space == operation.spaces[0] && (every || agree)
+/// Rule 1: the same space, and no condition of the match fails.
+/// A move or copy without fields asks for the space alone.
+pub fn matches(operation: &Operation, tuple: &Tuple, bound: &[(u8, Value)]) -> bool {
+    let every = matches!(operation.code, MOVE | COPY) && operation.fields.is_empty();
+    tuple.space == operation.spaces[0]
+        && (every || first_failing(&operation.fields, bound, &tuple.values) == Failing::Nothing)
 }
 
 /// Whether a guard is true or finds a tuple.

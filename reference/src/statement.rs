@@ -185,6 +185,13 @@ fn write_operation(operation: &Operation, bytes: &mut Vec<u8>) {
     }
 }
 
+/// The bytes of an operation as a body has them.
+pub fn operation_bytes(operation: &Operation) -> Vec<u8> {
+    let mut bytes = Vec::new();
+    write_operation(operation, &mut bytes);
+    bytes
+}
+
 /// The bytes of a statement, legal or not.
 pub fn write(statement: &Statement) -> Vec<u8> {
     let mut bytes = vec![statement.host];

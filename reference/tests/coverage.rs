@@ -2,7 +2,10 @@
 
 use reference::generate::cells::{impossible, missing};
 use reference::generate::coverage::Coverage;
+use reference::generate::match_cells;
+use reference::generate::matches::Matches;
 use reference::generate::Stream;
+use std::collections::BTreeSet;
 
 fn run(seed: u64, streams: u64, records: usize) -> Coverage {
     let mut coverage = Coverage::default();
@@ -32,4 +35,34 @@ fn long_streams_are_mostly_taken() {
     assert!(coverage.taken * 2 >= coverage.calls);
     assert!(coverage.done * 4 >= coverage.calls);
     assert!(impossible(&coverage).is_empty());
+}
+
+#[test]
+fn matches_reach_every_cell() {
+    for seed in [1, 11, 2024] {
+        let (mut coverage, mut matches) = (Coverage::default(), Matches::new(seed));
+        (0..4_000).for_each(|_| coverage.add_match(&matches.make()));
+        let count = |cell: &String| coverage.cells.get(cell).copied().unwrap_or(0);
+        let missing: Vec<String> = match_cells::wanted().into_iter().filter(|cell| count(cell) == 0).collect();
+        assert!(missing.is_empty(), "never reached: {missing:?}");
+        let found: Vec<String> = match_cells::impossible().into_iter().filter(|cell| count(cell) > 0).collect();
+        assert!(found.is_empty(), "cannot occur: {found:?}");
+        for answer in 0..=3 {
+            assert!(count(&format!("match {answer} in all")) >= 600, "{answer}");
+        }
+    }
+}
+
+/// No cell is listed twice or as both, and every cell counted is in one of the lists.
+#[test]
+fn cells_of_matches_are_listed() {
+    let (wanted, impossible) = (match_cells::wanted(), match_cells::impossible());
+    let listed: BTreeSet<&String> = wanted.iter().chain(&impossible).collect();
+    assert_eq!(listed.len(), wanted.len() + impossible.len());
+    let mut matches = Matches::new(7);
+    for _ in 0..4_000 {
+        for cell in match_cells::of_match(&matches.make()) {
+            assert!(listed.contains(&cell), "{cell}");
+        }
+    }
 }

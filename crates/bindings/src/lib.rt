@@ -7,14 +7,14 @@ ghost use Rattle.basis.specs.Choice.{provided};
 ghost use Rattle.basis.specs.ListLaws.{Each};
 ghost use Rattle.basis.specs.Sizes.{mostFields, tupleSize};
 ghost use Rattle.model.specs.Value.{value};
-ghost use Rattle.model.specs.Matching.{valueOf, unbound, bindField, bind};
+ghost use Rattle.model.specs.Matching.{valueOf, unbound, sought, template, bindField, bind};
 ghost use Rattle.model.specs.Execution.{made};
 ghost use Rattle.sums.specs.Meaning.{sumOf};
 ghost use Rattle.statements.specs.Flat.{fieldIs};
 ghost use Rattle.tuples.specs.Section.{tupleAt};
 ghost use Rattle.sections.specs.Rows.{HasRows};
+ghost use Rattle.matching.specs.Meaning.{soughtIs, templateIs};
 ghost use Rattle.bindings.specs.Variables.{bindingsOf};
-ghost use Rattle.bindings.specs.Templates.{Asks, AsksFor};
 ghost use Rattle.bindings.specs.Fields.{fieldsIn};
 ghost use Rattle.bindings.specs.Making.{givenIs, Summable, CanMake, madeBytes};
 use matching::Template;
@@ -70,7 +70,7 @@ fn held(v: Vars, variable: u8) -> Sought
 
 // What a template's field asks for.
 fn asked(f: Field, v: Vars) -> Sought
-    ensures { λ r. ⌜ Asks (bindingsOf v) (fieldIs f) (r .kind) (r .given) (r .bits) ⌝ }
+    ensures { λ r. ⌜ soughtIs (r .kind) (r .given) (r .bits) ≡ sought (bindingsOf v) (fieldIs f) ⌝ }
 {
     if f.form == 0 {
         return Sought {
@@ -92,7 +92,7 @@ fn asked(f: Field, v: Vars) -> Sought
 // Rule 1: the template of an operation's fields.
 pub fn template_of(op: Operation, v: Vars) -> Template
     requires { ⌜ op .count ≤ mostFields ⌝ }
-    ensures { λ r. ⌜ AsksFor (bindingsOf v) (op .from) (fieldsIn op) r ⌝ }
+    ensures { λ r. ⌜ (templateIs r ≡ template (bindingsOf v) (op .from) (fieldsIn op)) × (r .count ≤ mostFields) ⌝ }
 {
     let mut kinds = [0u8; words::MOST_FIELDS];
     let mut given = [false; words::MOST_FIELDS];

@@ -1,3 +1,4 @@
 pub mod Shown
 pub mod Table
 pub mod StateBytes
+pub mod Answers

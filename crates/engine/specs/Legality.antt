@@ -6,7 +6,7 @@ use mathlib.Core.Bool.{Bool, true, false, not, _&&_}
 use mathlib.Core.Option.{Option, none, some}
 use mathlib.Core.List.{List, [], _∷_}
 use lib.ListN.{length, getD}
-use lib.Dec.{T, leb, leb→le, ltb→lt, eqb→eq}
+use lib.Dec.{T, leb, leb→le, ltb→lt}
 use Rattle.basis.specs.Choice.{maybe-ind, cond-ind}
 use Rattle.basis.specs.Logic.{and-l, and-r}
 use Rattle.basis.specs.Lists.{any, isIn, Found, first}
@@ -15,7 +15,8 @@ use Rattle.basis.specs.Sizes.{spaceNumbers, mostFields, mostTuples}
 use Rattle.model.specs.Value.{Value}
 use Rattle.model.specs.Statement.{Field, actual, formal, reference, sum, difference, anonymous, Operation, always, lookup, deposit, transfer}
 use Rattle.model.specs.Legal.{Kinds, kindIn, legalField, bindKind, bindKinds, legalFields, fieldsOf, isSpace, fieldCount, legalOperation}
-use Rattle.model.specs.Matching.{Tuple, Bindings, sameCount, sameKinds, matches, oldest}
+use Rattle.model.specs.Matching.{Tuple, Bindings, matches, oldest}
+use Rattle.model.specs.MatchingLaws.{matched}
 use Rattle.model.specs.Execution.{Result, done, failed, lookedUp, madeAll, appended, perform}
 use Rattle.model.specs.ValidLaws.{tuple-values}
 use Rattle.model.specs.BoundKinds.{Agree, agree-at, agree-bind, fields-cons, binds-nothing, summed, madeAll-legal}
@@ -72,12 +73,12 @@ unfolding appended
 appended-agrees ks bs ts new a = cond-ind (AgreeAfter ks) (leb (length ts + length new) mostTuples) _ _ (λ e. a) (λ e. tt)
 
 lookup-agrees : (withdraws blocks : Bool) (s : ℕ) (fs : List Field) (ks : Kinds) (bs : Bindings) (ts : List Tuple) → Each Section.Legal ts → Agree ks bs → AgreeAfter (bindKinds ks fs) (perform (lookup withdraws blocks s fs) bs ts)
-unfolding perform oldest lookedUp matches sameCount
+unfolding perform oldest lookedUp
 lookup-agrees withdraws blocks s fs ks bs ts l a =
     maybe-ind (AgreeAfter (bindKinds ks fs)) (first (matches bs s fs) ts) _ _ (λ e. tt) (λ f e.
     let h = first-some (matches bs s fs) ts f e in
-    let m = h .passes in
-    agree-bind bs fs (f .item .values) ks bs (eqb→eq (length (f .item .values)) (length fs) (search (and-l, and-r, m) depth 6)) (search (and-l, and-r, m) depth 6)
+    let m = matched bs s fs (f .item) (h .passes) in
+    agree-bind bs fs (f .item .values) ks bs (m .0) (m .1)
     (tuple-values (f .item) (l (f .item) (first-member (matches bs s fs) ts f h) .0)) a)
 
 deposit-agrees : (s : ℕ) (fs : List Field) (ks : Kinds) (bs : Bindings) (ts : List Tuple) → T (legalOperation ks (deposit s fs)) → Agree ks bs → AgreeAfter (bindKinds ks fs) (perform (deposit s fs) bs ts)

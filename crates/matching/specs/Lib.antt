@@ -1,2 +1,2 @@
-pub mod Hits
-pub mod HitsLaws
+pub mod Meaning
+pub mod SearchLaws

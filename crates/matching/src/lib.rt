@@ -1,15 +1,15 @@
 // Rule 1 on the tuples of a state: which of them a template matches, and the oldest one.
 ghost use mathlib.Core.Path.{_≡_};
-ghost use Prim.Native.Nat.{_+_, _≤_, _<_};
+ghost use Prim.Native.Nat.{_+_, _≤_};
 ghost use lib.ListN.{length};
 ghost use Rattle.basis.specs.Lists.{first};
 ghost use Rattle.basis.specs.Sizes.{mostTuples, mostFields, tupleSize, tuplesSize};
+ghost use Rattle.model.specs.Matching.{firstMismatch, fits};
 ghost use Rattle.tuples.specs.Section.{tupleAt, tuplesOf};
-ghost use Rattle.tuples.specs.Entry.{valueIn, valuesIn, eachField};
 ghost use Rattle.sections.specs.Rows.{HasRows};
-ghost use Rattle.matching.specs.Hits.{hits, fieldHits, foundIs};
+ghost use Rattle.matching.specs.Meaning.{templateIs, mismatchIs, foundIs};
 
-// What a template asks: the space, and of each of `count` fields the kind and, where one is given, the value.
+// What a template asks for: the space, and of each of `count` fields the kind and, where one is given, the value.
 pub struct Template {
     pub space: u16,
     pub count: usize,
@@ -18,62 +18,82 @@ pub struct Template {
     pub bits: [u32; words::MOST_FIELDS],
 }
 
+// Which condition of document 003, section 5.1, fails first: 0 none, 1 the number of fields, 2 the kinds, 3 the values.
+pub enum Mismatch {
+    None,
+    Count,
+    Kinds,
+    Values,
+}
+
 pub enum Found {
     At(usize),
     Nothing,
 }
 
-// Whether field f of the tuple at index i is of the kind of the template's and, where the template gives a value, has the same.
-fn field_hits(tuples: &[u8], i: usize, f: usize, template: Template) -> bool
-    requires { ⌜ HasRows tupleSize (now tuples) (i + 1) × (f < mostFields) ⌝ }
-    ensures { λ r. ⌜ r ≡ fieldHits template f (valueIn (now (tuples .entry)) i f) ⌝ }
-{
-    if tuples::kind(tuples, i, f) != template.kinds[f] {
-        return false;
-    }
-    if template.given[f] {
-        return template.bits[f] == tuples::bits(tuples, i, f);
-    }
-    true
-}
-
-// Whether as many values of the tuple at index i as the template has fields agree with them.
-fn fields_hit(tuples: &[u8], i: usize, template: Template) -> bool
+// The conditions of 5.1 in their order, on a template, its μ, and the tuple at index i, its τ. (No tuple has more than six fields: said of the
+// loops, this lets the compiler write out their turns.)
+pub fn first_mismatch(tuples: &[u8], i: usize, template: Template) -> Mismatch
     requires { ⌜ HasRows tupleSize (now tuples) (i + 1) × (template .count ≤ mostFields) ⌝ }
-    ensures { λ r. ⌜ r ≡ eachField (fieldHits template) 0 (valuesIn (now (tuples .entry)) i (template .count)) ⌝ }
+    ensures { λ r. ⌜ mismatchIs r ≡ firstMismatch (templateIs template) (tupleAt (now (tuples .entry)) i) ⌝ }
 {
+    // "μ and τ have the same number of fields."
+    if tuples::field_count(tuples, i) != template.count {
+        return Mismatch::Count;
+    }
+    // "Corresponding fields have the same types."
+    let mut k = 0;
+    'kinds: while k < words::MOST_FIELDS {
+        if k == template.count {
+            break 'kinds;
+        }
+        if tuples::kind(tuples, i, k) != template.kinds[k] {
+            return Mismatch::Kinds;
+        }
+        k += 1;
+    }
+    // "Each pair of corresponding fields F_μ and F_τ match as follows":
     let mut f = 0;
-    while f < template.count {
-        if !field_hits(tuples, i, f, template) {
-            return false;
+    'values: while f < words::MOST_FIELDS {
+        if f == template.count {
+            break 'values;
+        }
+        // "If both F_μ and F_τ are actuals, they match if and only if their respective values are equal";
+        // "If F_μ is a formal and F_τ is an actual, they match".
+        if template.given[f] {
+            if tuples::bits(tuples, i, f) != template.bits[f] {
+                return Mismatch::Values;
+            }
         }
         f += 1;
     }
-    true
+    Mismatch::None
 }
 
-// Whether "space, field count, kinds and given values agree" with the tuple at index i.
-pub fn tuple_hits(tuples: &[u8], i: usize, template: Template) -> bool
+// A match: the same space, and none fails.
+pub fn fits(tuples: &[u8], i: usize, template: Template) -> bool
     requires { ⌜ HasRows tupleSize (now tuples) (i + 1) × (template .count ≤ mostFields) ⌝ }
-    ensures { λ r. ⌜ r ≡ hits template (tupleAt (now (tuples .entry)) i) ⌝ }
+    ensures { λ r. ⌜ r ≡ fits (templateIs template) (tupleAt (now (tuples .entry)) i) ⌝ }
 {
     if tuples::space(tuples, i) != template.space {
         return false;
     }
-    if tuples::field_count(tuples, i) != template.count {
-        return false;
+    match first_mismatch(tuples, i, template) {
+        Mismatch::None => true,
+        Mismatch::Count => false,
+        Mismatch::Kinds => false,
+        Mismatch::Values => false,
     }
-    fields_hit(tuples, i, template)
 }
 
 // "the oldest match": the first of n tuples that the template matches.
 pub fn find(tuples: &[u8], n: usize, template: Template) -> Found
     requires { ⌜ (length (now tuples) ≡ tuplesSize) × (n ≤ mostTuples) × (template .count ≤ mostFields) ⌝ }
-    ensures { λ r. ⌜ foundIs (now (tuples .entry)) r ≡ first (hits template) (tuplesOf (now (tuples .entry)) n) ⌝ }
+    ensures { λ r. ⌜ foundIs (now (tuples .entry)) r ≡ first (fits (templateIs template)) (tuplesOf (now (tuples .entry)) n) ⌝ }
 {
     let mut i = 0;
     while i < n {
-        if tuple_hits(tuples, i, template) {
+        if fits(tuples, i, template) {
             return Found::At(i);
         }
         i += 1;

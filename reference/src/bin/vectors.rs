@@ -1,7 +1,12 @@
 //! Prints test vectors. Usage: vectors SEED STREAMS RECORDS [--coverage]
+//! or, for matches alone: vectors --matches SEED COUNT [--coverage]
 
 use reference::generate::coverage::Coverage;
+use reference::generate::matches::{Match, Matches};
 use reference::generate::{Step, Stream};
+use reference::layout::tuple_entry;
+use reference::statement::operation_bytes;
+use reference::value::Value;
 use std::io::{self, Write};
 use std::process::ExitCode;
 
@@ -37,10 +42,46 @@ fn line(step: &Step) -> String {
     format!("call {state} {record} {} {} {reply} {after}", step.lent.len(), step.returned)
 }
 
-fn print_coverage(coverage: &Coverage) {
+fn match_line(one: &Match) -> String {
+    let named = |(variable, value): &(u8, Value)| format!("{variable}:{}:{}", value.kind, hex(&value.bytes));
+    let bound: Vec<String> = one.bound.iter().map(named).collect();
+    let bound = if bound.is_empty() { "-".to_string() } else { bound.join(",") };
+    let (operation, tuple) = (hex(&operation_bytes(&one.operation)), hex(&tuple_entry(&one.tuple)));
+    format!("match {operation} {bound} {tuple} {}", one.answer().number())
+}
+
+fn print_streams(coverage: &mut Coverage, seed: u64, streams: u64, records: u64) -> io::Result<()> {
+    let mut out = io::BufWriter::new(io::stdout().lock());
+    for number in 0..streams {
+        let mut stream = Stream::new(seed, number);
+        writeln!(out, "stream {number} {}", stream.profile().name())?;
+        for _ in 0..records {
+            let step = stream.step();
+            coverage.add(&step);
+            writeln!(out, "{}", line(&step))?;
+        }
+    }
+    out.flush()
+}
+
+fn print_matches(coverage: &mut Coverage, seed: u64, count: u64) -> io::Result<()> {
+    let mut out = io::BufWriter::new(io::stdout().lock());
+    let mut matches = Matches::new(seed);
+    for _ in 0..count {
+        let one = matches.make();
+        coverage.add_match(&one);
+        writeln!(out, "{}", match_line(&one))?;
+    }
+    out.flush()
+}
+
+fn print_cells(coverage: &Coverage) {
     for (cell, count) in &coverage.cells {
         eprintln!("{cell:40} {count}");
     }
+}
+
+fn print_calls(coverage: &Coverage) {
     eprintln!("calls {}, taken {}, statements done {}", coverage.calls, coverage.taken, coverage.done);
 }
 
@@ -48,27 +89,25 @@ fn main() -> ExitCode {
     let (options, numbers): (Vec<String>, Vec<String>) =
         std::env::args().skip(1).partition(|argument| argument.starts_with("--"));
     let numbers: Option<Vec<u64>> = numbers.iter().map(|text| text.parse().ok()).collect();
-    let show = options.iter().any(|option| option == "--coverage");
-    let Some(&[seed, streams, records]) = numbers.as_deref() else {
-        eprintln!("usage: vectors SEED STREAMS RECORDS [--coverage]");
-        return ExitCode::FAILURE;
-    };
-    let mut out = io::BufWriter::new(io::stdout().lock());
+    let has = |name: &str| options.iter().any(|option| option == name);
     let mut coverage = Coverage::default();
-    for number in 0..streams {
-        let mut stream = Stream::new(seed, number);
-        let mut printed = writeln!(out, "stream {number} {}", stream.profile().name()).is_ok();
-        for _ in 0..records {
-            let step = stream.step();
-            coverage.add(&step);
-            printed = printed && writeln!(out, "{}", line(&step)).is_ok();
-        }
-        if !printed {
+    let printed = match (has("--matches"), numbers.as_deref()) {
+        (false, Some(&[seed, streams, records])) => print_streams(&mut coverage, seed, streams, records),
+        (true, Some(&[seed, count])) => print_matches(&mut coverage, seed, count),
+        _ => {
+            eprintln!("usage: vectors SEED STREAMS RECORDS [--coverage]");
+            eprintln!("       vectors --matches SEED COUNT [--coverage]");
             return ExitCode::FAILURE;
         }
+    };
+    if printed.is_err() {
+        return ExitCode::FAILURE;
     }
-    if show {
-        print_coverage(&coverage);
+    if has("--coverage") {
+        print_cells(&coverage);
+    }
+    if has("--coverage") && !has("--matches") {
+        print_calls(&coverage);
     }
     ExitCode::SUCCESS
 }

@@ -1,12 +1,13 @@
 //! Counts of the cells that the steps of a stream reach.
 
-use super::{number_cells, Step};
+use super::matches::Match;
+use super::{match_cells, number_cells, Step};
 use crate::call::split;
 use crate::layout::{read_state, REPLY_BYTES};
 use crate::run::{read_request, Mark, Request, Run};
 use crate::statement::{self, Branch, Field, Statement, COPY, MOST_BYTES, MOVE};
 use crate::value::WHOLE;
-use std::collections::BTreeMap;
+use std::collections::{BTreeMap, BTreeSet};
 
 #[derive(Default)]
 pub struct Coverage {
@@ -85,6 +86,12 @@ impl Coverage {
                 self.count("woken over 255");
             }
         }
+    }
+
+    /// Counts the cells of a match, each once.
+    pub fn add_match(&mut self, one: &Match) {
+        let cells: BTreeSet<String> = match_cells::of_match(one).into_iter().collect();
+        self.count_all(cells.into_iter().collect());
     }
 
     fn count_all(&mut self, cells: Vec<String>) {

@@ -4,6 +4,8 @@ pub mod cells;
 pub mod coverage;
 pub mod damage;
 pub mod long;
+pub mod match_cells;
+pub mod matches;
 pub mod number_cells;
 pub mod numbers;
 pub mod rng;

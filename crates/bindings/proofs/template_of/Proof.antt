@@ -1,27 +1,30 @@
 -- `bindings::template_of` meets its contract. Assumes nothing.
 use borrow.Author.Needs.{needs}
-use mathlib.Core.Path.{_≡_, refl, sym}
+use mathlib.Core.Path.{_≡_, refl, ap}
+use mathlib.Core.List.{List, map}
 use Prim.Native.Nat.{_≤_, _<_, _-_}
 use native.Mathlib.Omega.{arith}
 use lib.ListN.{length, take}
 use Rattle.basis.specs.Sizes.{mostFields}
+use Rattle.model.specs.Matching.{Sought, sought}
+use Rattle.matching.specs.Meaning.{soughtFrom}
 use Rattle.statements.specs.Flat.{fieldsAre}
 use Rattle.bindings.specs.Variables.{bindingsOf}
-use Rattle.bindings.specs.Templates.{AskFrom, ask-turn, asks-for}
-use Rattle.bindings.specs.Fields.{fieldsIn, length-mapped, fields-length}
+use Rattle.bindings.specs.Templates.{ask-turn}
+use Rattle.bindings.specs.Fields.{length-mapped}
 use Rattle.bindings.proofs.template_of.Statement.{statement}
 use Rattle.bindings.proofs.template_of.Tie as tie
 
 abbrev Inv-loop : tie.InvT-loop
 Inv-loop v op kinds₀ given₀ bits₀ n i₀ kinds given bits i =
-    (i ≤ n) × AskFrom (bindingsOf v) (fieldsAre (take i (op .fields))) kinds given bits 0 × (length kinds ≡ mostFields) × (length given ≡ mostFields) × (length bits ≡ mostFields)
+    (i ≤ n) × (soughtFrom kinds given bits 0 i ≡ map (sought (bindingsOf v)) (fieldsAre (take i (op .fields)))) × (length kinds ≡ mostFields) × (length given ≡ mostFields) × (length bits ≡ mostFields)
 
 abbrev μ-loop : tie.MeasureT-loop
 μ-loop v op kinds₀ given₀ bits₀ n i₀ kinds given bits i = n - i
 
 loop-holds : tie.Need-loop-holds Inv-loop μ-loop
-unfolding fieldsAre
-loop-holds c = (search needs, tt, refl, refl, refl)
+unfolding fieldsAre soughtFrom
+loop-holds c = (search needs, refl, refl, refl, refl)
 
 mul-asked : tie.Need-mul-asked Inv-loop μ-loop
 mul-asked c = search needs
@@ -68,8 +71,7 @@ returns : tie.Need-returns Inv-loop μ-loop
 returns c =
     let start = c .before .before in
     let end : c .before .loop .i ≡ start .args .t1 .count = omega (arith, c .before .loop .inv .0, c .loop-test .left) in
-    let six : length (start .args .t1 .fields) ≡ mostFields = search (needs, length-mapped) in
-    asks-for (bindingsOf (start .args .v)) (fieldsIn (start .args .t1)) _ (sym (fields-length (start .args .t1 .fields) (start .args .t1 .count) (omega (arith, start .pre)))) (rw end at (c .before .loop .inv .1)) (start .pre)
+    (ap (λ (fs : List Sought). record { space = start .args .t1 .from; fields = fs }) (rw end at (c .before .loop .inv .1)), start .pre)
 
 pub template-of-spec : {M : Type 1} → statement M
 template-of-spec =

@@ -11,7 +11,8 @@ use Rattle.basis.specs.Sizes.{mostFields}
 use Rattle.matching.specs.declared.Found.the-variants.{At}
 use Rattle.tuples.specs.Section.{tupleShape, tuplesOf}
 use Rattle.sections.specs.Shapes.{holds-length}
-use Rattle.matching.specs.Hits.{hits, foundIs}
+use Rattle.model.specs.Matching.{fits}
+use Rattle.matching.specs.Meaning.{templateIs, foundIs}
 use Rattle.bindings.specs.Fields.{fieldsIn, length-mapped, fields-length}
 use Rattle.bindings.specs.Variables.{bindingsOf}
 use Rattle.operations.specs.Performing.{at-below, at-count, look-none, look-removed, look-read}
@@ -29,11 +30,11 @@ module _ (c : tie.After-find) where
   bytes = now (start .args .tuples)
 
   -- a tuple that was found
-  found : (i : ℕ) → c .find .result ≡ At i → foundIs bytes (At i) ≡ first (hits (c .before .template-of .result)) (tuplesOf bytes (start .args .n))
+  found : (i : ℕ) → c .find .result ≡ At i → foundIs bytes (At i) ≡ first (fits (templateIs (c .before .template-of .result))) (tuplesOf bytes (start .args .n))
   found i e = ap (foundIs bytes) (sym e) ∙ c .find .ensures
 
   below : (i : ℕ) → c .find .result ≡ At i → i < start .args .n
-  below i e = at-below (bindingsOf (start .args .v)) (start .args .op .from) (fieldsIn (start .args .op)) bytes (start .args .n) (c .before .template-of .result) (c .before .template-of .ensures) i (found i e)
+  below i e = at-below (bindingsOf (start .args .v)) (start .args .op .from) (fieldsIn (start .args .op)) bytes (start .args .n) (c .before .template-of .result) (c .before .template-of .ensures .0) i (found i e)
 
 template-of-requires : tie.Need-template-of-requires
 template-of-requires c κs = search needs
@@ -41,7 +42,7 @@ template-of-requires c κs = search needs
 find-requires : tie.Need-find-requires
 find-requires c κs =
     let start = c .before .before .before in
-    (holds-length tupleShape _ _ _ (start .pre .0), start .pre .0 .few, c .template-of .ensures .few)
+    (holds-length tupleShape _ _ _ (start .pre .0), start .pre .0 .few, c .template-of .ensures .1)
 
 enum-known-i : tie.Need-enum-known-i
 enum-known-i c = search needs
@@ -54,7 +55,7 @@ bind-at-requires c κs =
     let a = (start at) .args in (
       start at .pre .1,
       omega (arith, below at i e, start at .pre .0 .few, holds-length tupleShape _ _ _ (start at .pre .0)),
-      at-count (bindingsOf (a .v)) (a .op .from) (fieldsIn (a .op)) (bytes at) (a .n) (at .before .template-of .result) (at .before .template-of .ensures) i (found at i e)
+      at-count (bindingsOf (a .v)) (a .op .from) (fieldsIn (a .op)) (bytes at) (a .n) (at .before .template-of .result) (at .before .template-of .ensures .0) i (found at i e)
           ∙ fields-length (a .op .fields) (a .op .count) (few (start at)),
     )
 
@@ -78,7 +79,7 @@ returns c =
     let arm = c .before .before .before .before .before .before .before .before in
     let at = arm .before .before in
     let a = (start at) .args in
-    look-removed (bindingsOf (a .v)) (a .op .from) (fieldsIn (a .op)) (bytes at) (a .n) (at .before .template-of .result) (at .before .template-of .ensures) (a .withdraws) (c .before .before .before .before .if1 .taken)
+    look-removed (bindingsOf (a .v)) (a .op .from) (fieldsIn (a .op)) (bytes at) (a .n) (at .before .template-of .result) (at .before .template-of .ensures .0) (a .withdraws) (c .before .before .before .before .if1 .taken)
     (arm .i .given .0 .0) (c .before .before .before .before .before .bind-at .result) _
     (found at (arm .i .given .0 .0) (arm .i .given .1)) (c .before .before .before .before .before .bind-at .ensures) (c .before .before .remove .ensures)
 
@@ -93,7 +94,7 @@ returns-2 c =
     let arm = c .before .before .before .before in
     let at = arm .before .before in
     let a = (start at) .args in
-    look-read (bindingsOf (a .v)) (a .op .from) (fieldsIn (a .op)) (bytes at) (a .n) (at .before .template-of .result) (at .before .template-of .ensures) (a .withdraws) (c .if1 .left)
+    look-read (bindingsOf (a .v)) (a .op .from) (fieldsIn (a .op)) (bytes at) (a .n) (at .before .template-of .result) (at .before .template-of .ensures .0) (a .withdraws) (c .if1 .left)
     (arm .i .given .0 .0) (c .before .bind-at .result) (found at (arm .i .given .0 .0) (arm .i .given .1)) (c .before .bind-at .ensures) (start at .pre .0)
 
 same-length-3 : tie.Need-same-length-3
@@ -103,7 +104,7 @@ returns-3 : tie.Need-returns-3
 returns-3 c =
     let at = c .before .before in
     let a = (start at) .args in
-    look-none (bindingsOf (a .v)) (a .op .from) (fieldsIn (a .op)) (bytes at) (a .n) (at .before .template-of .result) (at .before .template-of .ensures) (a .withdraws) (a .v) (bytes at)
+    look-none (bindingsOf (a .v)) (a .op .from) (fieldsIn (a .op)) (bytes at) (a .n) (at .before .template-of .result) (at .before .template-of .ensures .0) (a .withdraws) (a .v) (bytes at)
     (ap (foundIs (bytes at)) (sym (c .enum-told .given .1)) ∙ at .find .ensures)
 
 pub look-up-spec : {M : Type 1} → statement M

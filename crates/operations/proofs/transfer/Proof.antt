@@ -30,7 +30,7 @@ returns c =
     let yes = moved .before .before in
     let at = yes .before in
     let a = (start at) .args in
-    transfer-moved (bindingsOf (a .v)) (a .op .from) (a .op .to) (fieldsIn (a .op)) (now (a .tuples)) (a .n) (a .v) refl (at .template-of .result) (at .template-of .ensures) _ (a .withdraws) (yes .if1 .taken) (moved .move-all .ensures)
+    transfer-moved (bindingsOf (a .v)) (a .op .from) (a .op .to) (fieldsIn (a .op)) (now (a .tuples)) (a .n) (a .v) refl (at .template-of .result) (at .template-of .ensures .0) _ (a .withdraws) (yes .if1 .taken) (moved .move-all .ensures)
 
 copy-all-requires : tie.Need-copy-all-requires
 copy-all-requires c κs = search needs
@@ -51,7 +51,7 @@ returns-2 c =
     let no = call .before .before in
     let at = no .before in
     let a = (start at) .args in
-    transfer-copied (bindingsOf (a .v)) (a .op .from) (a .op .to) (fieldsIn (a .op)) (now (a .tuples)) (a .n) (a .v) refl (at .template-of .result) (at .template-of .ensures) _ _ (a .withdraws) (no .if1 .left)
+    transfer-copied (bindingsOf (a .v)) (a .op .from) (a .op .to) (fieldsIn (a .op)) (now (a .tuples)) (a .n) (a .v) refl (at .template-of .result) (at .template-of .ensures .0) _ _ (a .withdraws) (no .if1 .left)
     (subst (λ (r : Copied). Copies r (now (a .tuples)) (call .copy-all .last .0) (a .n) (relocated (at .template-of .result) (a .op .to) (tuplesOf (now (a .tuples)) (a .n)))) (arm .m .given .1) (call .copy-all .ensures))
 
 same-length-3 : tie.Need-same-length-3
@@ -63,7 +63,7 @@ returns-3 c =
     let no = call .before .before in
     let at = no .before in
     let a = (start at) .args in
-    transfer-full (bindingsOf (a .v)) (a .op .from) (a .op .to) (fieldsIn (a .op)) (now (a .tuples)) (a .n) (a .v) refl (at .template-of .result) (at .template-of .ensures) _ (a .withdraws) (no .if1 .left)
+    transfer-full (bindingsOf (a .v)) (a .op .from) (a .op .to) (fieldsIn (a .op)) (now (a .tuples)) (a .n) (a .v) refl (at .template-of .result) (at .template-of .ensures .0) _ (a .withdraws) (no .if1 .left)
     (subst (λ (r : Copied). Copies r (now (a .tuples)) (call .copy-all .last .0) (a .n) (relocated (at .template-of .result) (a .op .to) (tuplesOf (now (a .tuples)) (a .n)))) (c .enum-told .given .1) (call .copy-all .ensures))
 
 pub transfer-spec : {M : Type 1} → statement M

@@ -1,0 +1,197 @@
+-- `matching::first_mismatch` meets its contract. Assumes nothing.
+use Prim.Native.Nat.{_-_, _≤_, _<_}
+use native.Mathlib.Omega.{arith}
+use mathlib.Core.Path.{_≡_, refl, _∙_}
+use mathlib.Core.Bool.{true}
+use mathlib.Core.Logic.{⊎-elim}
+use Rattle.basis.specs.Sizes.{mostFields}
+use Rattle.model.specs.Matching.{sameKind, sameValue, firstMismatch}
+use Rattle.tuples.specs.Section.{tupleAt}
+use Rattle.tuples.specs.Entry.{valueIn}
+use Rattle.matching.specs.declared.Mismatch.the-variants.{None}
+use Rattle.matching.specs.Meaning.{templateIs, mismatchIs}
+use Rattle.matching.specs.SearchLaws.{pairsFrom, pairs-miss, pairs-more, pairs-end, kind-other, kind-same, value-any, value-other, value-same, count-told, kinds-told, values-told, none-told}
+use borrow.Author.Needs.{needs}
+use Rattle.matching.proofs.first_mismatch.Statement.{statement}
+use Rattle.matching.proofs.first_mismatch.Tie as tie
+
+-- what is left to test says what all of it does
+abbrev Inv-kinds : tie.InvT-kinds
+Inv-kinds tuples i template k₀ k = (k ≤ template .count) × (pairsFrom sameKind template tuples i (template .count) 0 ≡ pairsFrom sameKind template tuples i (template .count) k)
+
+abbrev μ-kinds : tie.MeasureT-kinds
+μ-kinds tuples i template k₀ k = mostFields - k
+
+abbrev Inv-values : tie.InvT-values
+Inv-values tuples i template k f₀ f = (f ≤ template .count) × (pairsFrom sameValue template tuples i (template .count) 0 ≡ pairsFrom sameValue template tuples i (template .count) f)
+
+abbrev μ-values : tie.MeasureT-values
+μ-values tuples i template k f₀ f = mostFields - f
+
+-- ---- the number of fields
+
+field-count-requires : tie.Need-field-count-requires Inv-kinds μ-kinds Inv-values μ-values
+field-count-requires c κs = search needs
+
+returns : tie.Need-returns Inv-kinds μ-kinds Inv-values μ-values
+returns c =
+    let counted = c .before in
+    let a = counted .before .before .args in
+    count-told (a .t3) (a .tuples .now) (a .i) _ (counted .field-count .ensures) (c .if1 .taken)
+
+-- ---- the kinds
+
+kinds-holds : tie.Need-kinds-holds Inv-kinds μ-kinds Inv-values μ-values
+kinds-holds c = (omega arith, refl)
+
+kind-requires : tie.Need-kind-requires Inv-kinds μ-kinds Inv-values μ-values
+kind-requires c κs = search needs
+
+element-copy-out-if3 : tie.Need-element-copy-out-if3 Inv-kinds μ-kinds Inv-values μ-values
+element-copy-out-if3 c = search needs
+
+-- a turn is one of the template's fields
+module _ (c : tie.Else2 Inv-kinds μ-kinds Inv-values μ-values) where
+  abbrev start : tie.Start Inv-kinds μ-kinds Inv-values μ-values
+  start = c .before .before .before .before .before .before
+
+  one-of : c .before .before .kinds .k < start .args .t3 .count
+  one-of = omega (arith, c .before .before .kinds .inv .0, c .if2 .left)
+
+returns-2 : tie.Need-returns-2 Inv-kinds μ-kinds Inv-values μ-values
+returns-2 c =
+    let read = c .before .before in
+    let turn = read .before in
+    let l = turn .before .before in
+    let same = l .before in
+    let s = start turn in
+    let a = s .args in
+    kinds-told (a .t3) (a .tuples .now) (a .i) _ (same .before .field-count .ensures) (same .if1 .left) (s .pre .1)
+    (l .kinds .inv .1 ∙ pairs-miss sameKind (a .t3) (a .tuples .now) (a .i) (a .t3 .count) (l .kinds .k) (one-of turn) (kind-other (a .t3) (l .kinds .k) _ _ (read .kind .ensures) (c .if3 .taken)))
+
+add-k : tie.Need-add-k Inv-kinds μ-kinds Inv-values μ-values
+add-k c = search needs
+
+kinds-less : tie.Need-kinds-less Inv-kinds μ-kinds Inv-values μ-values
+kinds-less c = search needs
+
+kinds-again : tie.Need-kinds-again Inv-kinds μ-kinds Inv-values μ-values
+kinds-again c =
+    let read = c .before .before in
+    let turn = read .before in
+    let l = turn .before .before in
+    let a = start turn .args in (
+      omega (arith, one-of turn),
+      l .kinds .inv .1
+          ∙ pairs-more sameKind (a .t3) (a .tuples .now) (a .i) (a .t3 .count) (l .kinds .k) (one-of turn) (kind-same (a .t3) (l .kinds .k) (valueIn (a .tuples .now) (a .i) (l .kinds .k)) _ (read .kind .ensures) (c .if3 .left)),
+    )
+
+-- ---- the values
+
+values-holds : tie.Need-values-holds Inv-kinds μ-kinds Inv-values μ-values
+values-holds c = (omega arith, refl)
+
+element-copy-out-if5 : tie.Need-element-copy-out-if5 Inv-kinds μ-kinds Inv-values μ-values
+element-copy-out-if5 c = search needs
+
+bits-requires : tie.Need-bits-requires Inv-kinds μ-kinds Inv-values μ-values
+bits-requires c κs = search needs
+
+mul-if6 : tie.Need-mul-if6 Inv-kinds μ-kinds Inv-values μ-values
+mul-if6 c = search needs
+
+element-copy-out-if6 : tie.Need-element-copy-out-if6 Inv-kinds μ-kinds Inv-values μ-values
+element-copy-out-if6 c = search needs
+
+-- after the first loop all kinds agree
+module _ (c : tie.Left-kinds Inv-kinds μ-kinds Inv-values μ-values) where
+  abbrev begin : tie.Start Inv-kinds μ-kinds Inv-values μ-values
+  begin = c .before .before .before .before .before
+
+  no-more : begin .args .t3 .count ≤ c .before .kinds .k
+  no-more = ⊎-elim (λ w. omega (arith, w .left, begin .pre .1)) (λ w. omega (arith, w .1 .taken)) (c .kinds-test .came)
+
+  all-kinds : pairsFrom sameKind (begin .args .t3) (begin .args .tuples .now) (begin .args .i) (begin .args .t3 .count) 0 ≡ true
+  all-kinds = c .before .kinds .inv .1 ∙ pairs-end sameKind (begin .args .t3) (begin .args .tuples .now) (begin .args .i) (begin .args .t3 .count) (c .before .kinds .k) no-more
+
+module _ (c : tie.Else4 Inv-kinds μ-kinds Inv-values μ-values) where
+  one-of-values : c .before .before .values .f < begin (c .before .before .before) .args .t3 .count
+  one-of-values = omega (arith, c .before .before .values .inv .0, c .if4 .left)
+
+-- after the second one nothing fails
+module _ (c : tie.At-values Inv-kinds μ-kinds Inv-values μ-values) where
+  none-fails : begin (c .before) .args .t3 .count ≤ c .values .f
+      → mismatchIs None ≡ firstMismatch (templateIs (begin (c .before) .args .t3)) (tupleAt (begin (c .before) .args .tuples .now) (begin (c .before) .args .i))
+  none-fails h =
+      let same = c .before .before .before in
+      let s = begin (c .before) in
+      let a = s .args in
+      none-told (a .t3) (a .tuples .now) (a .i) _ (same .before .field-count .ensures) (same .if1 .left) (s .pre .1) (all-kinds (c .before))
+      (c .values .inv .1 ∙ pairs-end sameValue (a .t3) (a .tuples .now) (a .i) (a .t3 .count) (c .values .f) h)
+
+returns-3 : tie.Need-returns-3 Inv-kinds μ-kinds Inv-values μ-values
+returns-3 c =
+    let read = c .before .before in
+    let given = read .before in
+    let turn = given .before .before in
+    let l = turn .before .before in
+    let same = l .before .before .before in
+    let s = begin (l .before) in
+    let a = s .args in
+    values-told (a .t3) (a .tuples .now) (a .i) _ (same .before .field-count .ensures) (same .if1 .left) (s .pre .1) (all-kinds (l .before))
+    (l .values .inv .1
+    ∙ pairs-miss sameValue (a .t3) (a .tuples .now) (a .i) (a .t3 .count) (l .values .f) (one-of-values turn)
+    (value-other (a .t3) (l .values .f) (valueIn (a .tuples .now) (a .i) (l .values .f)) _ (read .bits .ensures) (given .if5 .taken) (c .if6 .taken)))
+
+add-f : tie.Need-add-f Inv-kinds μ-kinds Inv-values μ-values
+add-f c = search needs
+
+values-less : tie.Need-values-less Inv-kinds μ-kinds Inv-values μ-values
+values-less c = search needs
+
+values-again : tie.Need-values-again Inv-kinds μ-kinds Inv-values μ-values
+values-again c =
+    let turn = c .before .before in
+    let l = turn .before .before in
+    let a = begin (l .before) .args in
+    let v = valueIn (a .tuples .now) (a .i) (l .values .f) in (
+      omega (arith, one-of-values turn),
+      l .values .inv .1
+          ∙ pairs-more sameValue (a .t3) (a .tuples .now) (a .i) (a .t3 .count) (l .values .f) (one-of-values turn)
+          (⊎-elim (λ w. value-same (a .t3) (l .values .f) v _ (w .1 .ensures) (w .0 .taken) (w .3 .left)) (λ w. value-any (a .t3) (l .values .f) v (w .left)) (c .if5 .came)),
+    )
+
+returns-4 : tie.Need-returns-4 Inv-kinds μ-kinds Inv-values μ-values
+returns-4 c = none-fails (c .before) (omega (arith, c .values-test .left, begin (c .before .before) .pre .1))
+
+returns-5 : tie.Need-returns-5 Inv-kinds μ-kinds Inv-values μ-values
+returns-5 c = none-fails (c .before .before) (omega (arith, c .if4 .taken))
+
+pub first-mismatch-spec : {M : Type 1} → statement M
+first-mismatch-spec =
+    tie.close
+    (tie.spec
+    Inv-kinds
+    μ-kinds
+    Inv-values
+    μ-values
+    field-count-requires
+    returns
+    kinds-holds
+    kind-requires
+    element-copy-out-if3
+    returns-2
+    add-k
+    kinds-less
+    kinds-again
+    values-holds
+    element-copy-out-if5
+    bits-requires
+    mul-if6
+    element-copy-out-if6
+    returns-3
+    add-f
+    values-less
+    values-again
+    returns-4
+    returns-5)

@@ -1,0 +1,154 @@
+-- What the search for a match meets on its way: the conditions field by field, the search tuple by tuple. Assumes nothing.
+use mathlib.Core.Path.{_≡_, refl, sym, ap, _∙_}
+use mathlib.Core.Bool.{Bool, true, false, _&&_}
+use mathlib.Core.List.{List, _∷_}
+use mathlib.Core.Option.{Option}
+use Prim.Native.Nat.{ℕ, zero, suc, _+_, _-_, _≤_, _<_}
+use native.Mathlib.Omega.{arith}
+use native.Mathlib.Numerals.{add-one}
+use native.Mathlib.Nat.{sub-zero}
+use lib.ListN.{length, drop, getD, drop-of-length-le}
+use lib.Dec.{eqb}
+use borrow.Author.Tests.{eq-eqb, ne-eqb}
+use Rattle.basis.specs.Choice.{provided}
+use Rattle.basis.specs.Lists.{Found, firstFrom, first}
+use Rattle.basis.specs.Sizes.{mostFields}
+use Rattle.model.specs.Value.{Value}
+use Rattle.model.specs.Matching.{Tuple, Sought, sameCount, eachPair, sameKind, sameKinds, sameValue, sameValues, Mismatch, mismatchNumber, firstMismatch, sameSpace, fits}
+use Rattle.sections.specs.Shapes.{items-length}
+use Rattle.tuples.specs.Section.{tupleShape, tupleAt, tuplesOf}
+use Rattle.tuples.specs.SectionLaws.{read-drop}
+use Rattle.tuples.specs.Entry.{valueIn, valuesFrom}
+use Rattle.tuples.specs.PlaceLaws.{values-of, from-first, from-next}
+use Rattle.matching.specs.declared.Template.{Template}
+use Rattle.matching.specs.declared.Mismatch.the-variants.{None, Count, Kinds, Values}
+use Rattle.matching.specs.declared.Found.the-variants.{At, Nothing}
+use Rattle.matching.specs.Meaning.{soughtAt, soughtFrom, templateIs, mismatchIs, foundIs}
+
+-- field f of a template, and so many from f on
+abbrev pub fieldAt : Template → ℕ → Sought
+fieldAt t f = soughtAt (t .kinds) (t .given) (t .bits) f
+
+abbrev fieldsFrom : Template → (f count : ℕ) → List Sought
+fieldsFrom t f n = soughtFrom (t .kinds) (t .given) (t .bits) f n
+
+-- ---- one pair of corresponding fields: field f of a template and a value
+
+module _ (t : Template) (f : ℕ) (v : Value) where
+  pub kind-other : (k : ℕ) → k ≡ v .kind → (k ≡ getD (t .kinds) f 0 → ⊥) → sameKind (fieldAt t f) v ≡ false
+  unfolding sameKind
+  kind-other k is n = ne-eqb (getD (t .kinds) f 0) (v .kind) (λ e. n (is ∙ sym e))
+
+  pub kind-same : (k : ℕ) → k ≡ v .kind → k ≡ getD (t .kinds) f 0 → sameKind (fieldAt t f) v ≡ true
+  unfolding sameKind
+  kind-same k is e = eq-eqb (getD (t .kinds) f 0) (v .kind) (sym e ∙ is)
+
+  pub value-any : getD (t .given) f false ≡ false → sameValue (fieldAt t f) v ≡ true
+  unfolding sameValue provided
+  value-any g = rw g
+
+  pub value-other : (n : ℕ) → n ≡ v .bits → getD (t .given) f false ≡ true → (n ≡ getD (t .bits) f 0 → ⊥) → sameValue (fieldAt t f) v ≡ false
+  unfolding sameValue provided
+  value-other n is g d = rw g (ne-eqb (getD (t .bits) f 0) (v .bits) (λ e. d (is ∙ sym e)))
+
+  pub value-same : (n : ℕ) → n ≡ v .bits → getD (t .given) f false ≡ true → n ≡ getD (t .bits) f 0 → sameValue (fieldAt t f) v ≡ true
+  unfolding sameValue provided
+  value-same n is g e = rw g (eq-eqb (getD (t .bits) f 0) (v .bits) (sym e ∙ is))
+
+-- ---- the pairs from field f on, of n
+
+-- a test of each
+unfoldable pub pairsFrom : (Sought → Value → Bool) → Template → (tuples : List ℕ) (i n f : ℕ) → Bool
+pairsFrom test t p i n f = eachPair test (fieldsFrom t f (n - f)) (valuesFrom p i n f)
+
+module _ (test : Sought → Value → Bool) (t : Template) (p : List ℕ) (i n f : ℕ) where
+  pairs-step : f < n → pairsFrom test t p i n f ≡ (test (fieldAt t f) (valueIn p i f) && pairsFrom test t p i n (f + 1))
+  unfolding pairsFrom soughtFrom eachPair
+  pairs-step h =
+      let e : n - f ≡ suc (n - (f + 1)) = omega arith in
+      let fields : fieldsFrom t f (n - f) ≡ fieldAt t f ∷ fieldsFrom t (f + 1) (n - (f + 1)) = rw (e, add-one f) in
+      rw (fields, from-next p i n f h)
+
+  -- one that fails
+  pub pairs-miss : f < n → test (fieldAt t f) (valueIn p i f) ≡ false → pairsFrom test t p i n f ≡ false
+  pairs-miss h e = pairs-step h ∙ rw e
+
+  -- one that passes
+  pub pairs-more : f < n → test (fieldAt t f) (valueIn p i f) ≡ true → pairsFrom test t p i n f ≡ pairsFrom test t p i n (f + 1)
+  pairs-more h e = pairs-step h ∙ rw e
+
+  -- the end
+  pub pairs-end : n ≤ f → pairsFrom test t p i n f ≡ true
+  unfolding pairsFrom soughtFrom eachPair
+  pairs-end h = let e : n - f ≡ 0 = omega arith in rw e
+
+-- ---- one tuple
+
+pub sought-length : (t : Template) (f n : ℕ) → length (fieldsFrom t f n) ≡ n
+unfolding soughtFrom
+sought-length t f zero = refl
+sought-length t f (suc n) = ap suc (sought-length t (suc f) n)
+
+-- c: the number of values of the tuple at index i
+module _ (t : Template) (p : List ℕ) (i c : ℕ) (has : c ≡ length ((tupleAt p i) .values)) where
+  abbrev pairs : (Sought → Value → Bool) → Bool
+  pairs test = pairsFrom test t p i (t .count) 0
+
+  pub count-told : (c ≡ t .count → ⊥) → mismatchIs Count ≡ firstMismatch (templateIs t) (tupleAt p i)
+  unfolding mismatchIs firstMismatch sameCount
+  count-told d = rw (← has, sought-length t 0 (t .count), ne-eqb c (t .count) d)
+
+  module _ (e : c ≡ t .count) (few : t .count ≤ mostFields) where
+    same-count : sameCount (templateIs t) (tupleAt p i) ≡ true
+    unfolding sameCount
+    same-count = rw (← has, sought-length t 0 (t .count)) (eq-eqb c (t .count) e)
+
+    all-pairs : (test : Sought → Value → Bool) → eachPair test (fieldsFrom t 0 (t .count)) ((tupleAt p i) .values) ≡ pairs test
+    unfolding pairsFrom
+    all-pairs test = rw (values-of p i (t .count) (sym has ∙ e) few, ← from-first p i (t .count), sub-zero (t .count))
+
+    pub kinds-told : pairs sameKind ≡ false → mismatchIs Kinds ≡ firstMismatch (templateIs t) (tupleAt p i)
+    unfolding mismatchIs firstMismatch sameKinds
+    kinds-told k = rw (same-count, all-pairs sameKind, k)
+
+    pub values-told : pairs sameKind ≡ true → pairs sameValue ≡ false → mismatchIs Values ≡ firstMismatch (templateIs t) (tupleAt p i)
+    unfolding mismatchIs firstMismatch sameKinds sameValues
+    values-told k v = rw (same-count, all-pairs sameKind, k, all-pairs sameValue, v)
+
+    pub none-told : pairs sameKind ≡ true → pairs sameValue ≡ true → mismatchIs None ≡ firstMismatch (templateIs t) (tupleAt p i)
+    unfolding mismatchIs firstMismatch sameKinds sameValues
+    none-told k v = rw (same-count, all-pairs sameKind, k, all-pairs sameValue, v)
+
+-- ---- a match
+
+module _ (t : Template) (u : Tuple) (s : ℕ) (of : s ≡ u .space) where
+  pub fits-space : (s ≡ t .space → ⊥) → false ≡ fits (templateIs t) u
+  unfolding fits sameSpace
+  fits-space d = rw (ne-eqb (u .space) (t .space) (λ e. d (of ∙ e)))
+
+  pub fits-told : s ≡ t .space → (m : Mismatch) → m ≡ firstMismatch (templateIs t) u → eqb (mismatchNumber m) 0 ≡ fits (templateIs t) u
+  unfolding fits sameSpace
+  fits-told e m q = rw (q, eq-eqb (u .space) (t .space) (sym of ∙ e))
+
+-- ---- the search
+
+module _ (q : Tuple → Bool) (p : List ℕ) (n : ℕ) where
+  -- what is found from index i on
+  unfoldable pub searched : ℕ → Option (Found Tuple)
+  searched i = firstFrom q i (drop i (tuplesOf p n))
+
+  pub search-all : first q (tuplesOf p n) ≡ searched 0
+  unfolding first searched
+  search-all = refl
+
+  pub search-miss : (i : ℕ) → i < n → q (tupleAt p i) ≡ false → searched i ≡ searched (i + 1)
+  unfolding searched firstFrom
+  search-miss i h e = rw (read-drop p n i h, e, add-one i)
+
+  pub search-hit : (i : ℕ) → i < n → q (tupleAt p i) ≡ true → foundIs p (At i) ≡ searched i
+  unfolding searched firstFrom foundIs
+  search-hit i h e = rw (read-drop p n i h, e)
+
+  pub search-end : (i : ℕ) → n ≤ i → foundIs p Nothing ≡ searched i
+  unfolding searched firstFrom foundIs
+  search-end i h = rw (drop-of-length-le (tuplesOf p n) {i = i} (omega (arith, items-length tupleShape p n)))
