@@ -5,10 +5,10 @@ mod common;
 use common::unhex;
 use reference::call::take;
 use reference::generate::matches::{Match, Matches};
-use reference::layout::{encode, read_state, tuple_entry};
+use reference::layout::{read_state, tuple_entry};
 use reference::matching::Failing;
-use reference::run::{matches, Run, Space, Tuple};
-use reference::statement::{self, operation_bytes, Branch, Field, Operation, Statement};
+use reference::run::{matches, Tuple};
+use reference::statement::{self, operation_bytes};
 use reference::statement::{COPY, IN, INP, MOVE, RD, RDP, TRUE};
 use reference::value::Value;
 use std::process::Command;
@@ -146,44 +146,6 @@ fn matches_are_answer_0_in_the_space() {
 
 // ---- Whole calls ----
 
-/// A space of neither the template nor 0, for the tuples that the variables are bound by.
-fn spare(one: &Match) -> u16 {
-    (1..).find(|number| !one.operation.spaces.contains(number)).unwrap()
-}
-
-/// A statement that binds the variables by in of the spare space, then has the operation. With
-/// nothing bound codes 1 to 4 are the guard.
-fn statement_for(one: &Match) -> Statement {
-    let operation = one.operation.clone();
-    let bind = |(variable, value): &(u8, Value)| Field::Bind { kind: value.kind, variable: *variable };
-    let groups = one.bound.chunks(6).map(|group| group.iter().map(bind).collect());
-    let binding = groups.map(|fields| Operation { code: IN, spaces: vec![spare(one)], fields });
-    let mut body: Vec<Operation> = binding.collect();
-    let mut guard = Operation { code: TRUE, spaces: vec![], fields: vec![] };
-    if body.is_empty() && operation.code <= RDP {
-        guard = operation;
-    } else {
-        body.push(operation);
-    }
-    Statement { host: 2, process: 5, branches: vec![Branch { guard, body }] }
-}
-
-/// A state with the tuple behind those that the variables are bound by.
-fn state_for(one: &Match) -> Vec<u8> {
-    let mut run = Run { next: 65_536, ..Run::fresh() };
-    run.up[2] = true;
-    let mut numbers = one.operation.spaces.clone();
-    numbers.extend([0, spare(one)]);
-    numbers.sort();
-    numbers.dedup();
-    run.spaces = numbers.iter().map(|number| Space { number: *number, private: false, owner: 0 }).collect();
-    for group in one.bound.chunks(6) {
-        run.tuples.push(Tuple { space: spare(one), values: group.iter().map(|(_, value)| *value).collect() });
-    }
-    run.tuples.push(one.tuple.clone());
-    encode(&run)
-}
-
 /// Outcome (None: waits) and tuples that the paper gives, by the answer.
 fn expected(one: &Match, guard: bool) -> (Option<u8>, Vec<Tuple>) {
     let found = one.answer() == Failing::Nothing;
@@ -206,14 +168,9 @@ fn calls_go_by_the_answer() {
     let mut generated = Matches::new(33);
     for _ in 0..2_000 {
         let one = generated.make();
-        let statement = statement_for(&one);
-        let (mut state, mut reply) = (state_for(&one), vec![0; 3_564]);
-        let body = statement::write(&statement);
-        assert!(statement::is_legal(&statement), "{body:?}");
-        let mut record = b"AG".to_vec();
-        record.extend((body.len() as u16).to_be_bytes());
-        record.extend(1u32.to_be_bytes());
-        record.extend(body);
+        let (statement, record) = (one.statement(), one.record());
+        let (mut state, mut reply) = (one.state(), vec![0; 3_564]);
+        assert!(statement::is_legal(&statement), "{record:?}");
         let count = take(&mut state, &record, &mut reply);
         let (outcome, left) = expected(&one, statement.branches[0].guard.code != TRUE);
         assert_eq!((count > 0).then_some(reply[9]), outcome, "{record:?}");

@@ -7,13 +7,13 @@ ghost use Rattle.basis.specs.Choice.{provided};
 ghost use Rattle.basis.specs.ListLaws.{Each};
 ghost use Rattle.basis.specs.Sizes.{mostFields, tupleSize};
 ghost use Rattle.model.specs.Value.{value};
-ghost use Rattle.model.specs.Matching.{valueOf, unbound, sought, template, bindField, bind};
+ghost use Rattle.model.specs.Matching.{valueOf, unbound, templateField, template, bindField, bind};
 ghost use Rattle.model.specs.Execution.{made};
 ghost use Rattle.sums.specs.Meaning.{sumOf};
 ghost use Rattle.statements.specs.Flat.{fieldIs};
 ghost use Rattle.tuples.specs.Section.{tupleAt};
 ghost use Rattle.sections.specs.Rows.{HasRows};
-ghost use Rattle.matching.specs.Meaning.{soughtIs, templateIs};
+ghost use Rattle.matching.specs.Meaning.{templateFieldIs, templateIs};
 ghost use Rattle.bindings.specs.Variables.{bindingsOf};
 ghost use Rattle.bindings.specs.Fields.{fieldsIn};
 ghost use Rattle.bindings.specs.Making.{givenIs, Summable, CanMake, madeBytes};
@@ -70,7 +70,7 @@ fn held(v: Vars, variable: u8) -> Sought
 
 // What a template's field asks for.
 fn asked(f: Field, v: Vars) -> Sought
-    ensures { λ r. ⌜ soughtIs (r .kind) (r .given) (r .bits) ≡ sought (bindingsOf v) (fieldIs f) ⌝ }
+    ensures { λ r. ⌜ templateFieldIs (r .kind) (r .given) (r .bits) ≡ templateField (bindingsOf v) (fieldIs f) ⌝ }
 {
     if f.form == 0 {
         return Sought {

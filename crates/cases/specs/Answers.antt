@@ -25,7 +25,7 @@ row-with v fs vs n = record { bound = set unbound 0 (some v); fields = fs; value
 
 unfoldable pub answers : List Answer
 answers =
-    -- the four of docs/MATCHING.md: in(name 7, any whole, whole 2)
+    -- the four of docs/MATCHING.md: in(name 7, whole into variable 0, whole 2)
     row (actual (value name 7) ∷ formal whole 0 ∷ actual (value whole 2) ∷ []) (value name 7 ∷ value whole 41 ∷ value whole 2 ∷ []) 0
     ∷ row (actual (value name 7) ∷ formal whole 0 ∷ actual (value whole 2) ∷ []) (value name 7 ∷ value whole 41 ∷ []) 1
     ∷ row (actual (value name 7) ∷ formal whole 0 ∷ actual (value whole 2) ∷ []) (value name 8 ∷ value metres 1077936128 ∷ value whole 2 ∷ []) 2

@@ -1,18 +1,17 @@
 -- What an operation needs, a legal one has; and it leaves the variables legal. Assumes nothing.
-use mathlib.Core.Path.{_≡_, refl, sym, ap, subst, _∙_}
-use Prim.Native.Nat.{ℕ, _+_, _≤_, _<_}
+use mathlib.Core.Path.{_≡_}
+use Prim.Native.Nat.{ℕ, _+_, _≤_}
 use native.Mathlib.Omega.{arith}
-use mathlib.Core.Bool.{Bool, true, false, not, _&&_}
-use mathlib.Core.Option.{Option, none, some}
+use mathlib.Core.Bool.{Bool, true, false}
+use mathlib.Core.Option.{none}
 use mathlib.Core.List.{List, [], _∷_}
 use lib.ListN.{length, getD}
 use lib.Dec.{T, leb, leb→le, ltb→lt}
 use Rattle.basis.specs.Choice.{maybe-ind, cond-ind}
 use Rattle.basis.specs.Logic.{and-l, and-r}
-use Rattle.basis.specs.Lists.{any, isIn, Found, first}
-use Rattle.basis.specs.ListLaws.{Each, each-nil, each-cons, First, first-some, first-member}
+use Rattle.basis.specs.Lists.{any, isIn, first}
+use Rattle.basis.specs.ListLaws.{Each, each-nil, each-cons, first-some, first-member}
 use Rattle.basis.specs.Sizes.{spaceNumbers, mostFields, mostTuples}
-use Rattle.model.specs.Value.{Value}
 use Rattle.model.specs.Statement.{Field, actual, formal, reference, sum, difference, anonymous, Operation, always, lookup, deposit, transfer}
 use Rattle.model.specs.Legal.{Kinds, kindIn, legalField, bindKind, bindKinds, legalFields, fieldsOf, isSpace, fieldCount, legalOperation}
 use Rattle.model.specs.Matching.{Tuple, Bindings, matches, oldest}

@@ -18,7 +18,7 @@ use Rattle.model.specs.Statement as Model
 use Rattle.model.specs.Statement.{always, lookup, deposit, transfer, Branch, Statement}
 use Rattle.model.specs.Reading.{give, several, branch}
 use Rattle.model.specs.Legal.{isGuard, legalBranch}
-use Rattle.model.specs.Matching.{Tuple, unbound, template, fits, matches}
+use Rattle.model.specs.Matching.{Tuple, unbound, template, isMatch, matches}
 use Rattle.model.specs.Execution.{holds, guardHolds, ready, chosen, isBlocking, canWait}
 use Rattle.statements.specs.declared.Operation.{Operation}
 use Rattle.statements.specs.declared.OperationRead.{OperationRead}
@@ -40,14 +40,14 @@ unfolding operationIs operationOf holds
 guard-true o ts e = rw e
 
 -- the others hold where their template matches a tuple
-pub guard-template : (o : Operation) (ts : List Tuple) (t : Template) → T (isGuard (operationIs o)) → (o .code ≡ 0 → ⊥) → templateIs t ≡ template unbound (o .from) (fieldsIn o) → holds ts (operationIs o) ≡ any (fits (templateIs t)) ts
+pub guard-template : (o : Operation) (ts : List Tuple) (t : Template) → T (isGuard (operationIs o)) → (o .code ≡ 0 → ⊥) → templateIs t ≡ template unbound (o .from) (fieldsIn o) → holds ts (operationIs o) ≡ any (isMatch (templateIs t)) ts
 unfolding operationIs operationOf holds isGuard
 guard-template o ts t g z a = go (o .code) refl g z
   where
-    those : any (matches unbound (o .from) (fieldsIn o)) ts ≡ any (fits (templateIs t)) ts
+    those : any (matches unbound (o .from) (fieldsIn o)) ts ≡ any (isMatch (templateIs t)) ts
     those = rw a
 
-    go : (n : ℕ) → o .code ≡ n → T (isGuard (operationOf n (o .from) (o .to) (fieldsIn o))) → (n ≡ 0 → ⊥) → holds ts (operationIs o) ≡ any (fits (templateIs t)) ts
+    go : (n : ℕ) → o .code ≡ n → T (isGuard (operationOf n (o .from) (o .to) (fieldsIn o))) → (n ≡ 0 → ⊥) → holds ts (operationIs o) ≡ any (isMatch (templateIs t)) ts
     go zero q g z = absurd (z refl)
     go (suc zero) q g z = rw q those
     go (suc (suc zero)) q g z = rw q those
@@ -59,15 +59,15 @@ guard-template o ts t g z a = go (o .code) refl g z
 
 -- ---- the tuples, from one on
 
-pub any-hit : (t : Template) (p : List ℕ) (n j : ℕ) → j < n → fits (templateIs t) (tupleAt p j) ≡ true → any (fits (templateIs t)) (drop j (tuplesOf p n)) ≡ true
+pub any-hit : (t : Template) (p : List ℕ) (n j : ℕ) → j < n → isMatch (templateIs t) (tupleAt p j) ≡ true → any (isMatch (templateIs t)) (drop j (tuplesOf p n)) ≡ true
 unfolding any
 any-hit t p n j h e = rw (read-drop p n j h, e)
 
-pub any-miss : (t : Template) (p : List ℕ) (n j : ℕ) → j < n → fits (templateIs t) (tupleAt p j) ≡ false → any (fits (templateIs t)) (drop j (tuplesOf p n)) ≡ any (fits (templateIs t)) (drop (j + 1) (tuplesOf p n))
+pub any-miss : (t : Template) (p : List ℕ) (n j : ℕ) → j < n → isMatch (templateIs t) (tupleAt p j) ≡ false → any (isMatch (templateIs t)) (drop j (tuplesOf p n)) ≡ any (isMatch (templateIs t)) (drop (j + 1) (tuplesOf p n))
 unfolding any
 any-miss t p n j h e = rw (read-drop p n j h, e)
 
-pub any-end : (t : Template) (p : List ℕ) (n j : ℕ) → n ≤ j → any (fits (templateIs t)) (drop j (tuplesOf p n)) ≡ false
+pub any-end : (t : Template) (p : List ℕ) (n j : ℕ) → n ≤ j → any (isMatch (templateIs t)) (drop j (tuplesOf p n)) ≡ false
 unfolding any
 any-end t p n j h = let past : length (tuplesOf p n) ≤ j = omega (arith, items-length tupleShape p n) in rw (drop-of-length-le (tuplesOf p n) past)
 

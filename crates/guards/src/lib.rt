@@ -51,7 +51,7 @@ pub fn search(tuples: &[u8], n: usize, body: &[u8]) -> Choice
         let template = bindings::template_of(op, bindings::no_vars());
         let mut j = 0;
         'tuples: while j < n {
-            if matching::fits(tuples, j, template) {
+            if matching::is_match(tuples, j, template) {
                 branch = i + 1;
                 break 'branches;
             }

@@ -14,7 +14,7 @@ use Rattle.basis.specs.Choice.{provided}
 use Rattle.basis.specs.Lists.{Found, firstFrom, first}
 use Rattle.basis.specs.Sizes.{mostFields}
 use Rattle.model.specs.Value.{Value}
-use Rattle.model.specs.Matching.{Tuple, Sought, sameCount, eachPair, sameKind, sameKinds, sameValue, sameValues, Mismatch, mismatchNumber, firstMismatch, sameSpace, fits}
+use Rattle.model.specs.Matching.{Tuple, TemplateField, sameCount, eachPair, sameKind, sameKinds, sameValue, sameValues, Mismatch, mismatchNumber, firstMismatch, sameSpace, isMatch}
 use Rattle.sections.specs.Shapes.{items-length}
 use Rattle.tuples.specs.Section.{tupleShape, tupleAt, tuplesOf}
 use Rattle.tuples.specs.SectionLaws.{read-drop}
@@ -23,14 +23,14 @@ use Rattle.tuples.specs.PlaceLaws.{values-of, from-first, from-next}
 use Rattle.matching.specs.declared.Template.{Template}
 use Rattle.matching.specs.declared.Mismatch.the-variants.{None, Count, Kinds, Values}
 use Rattle.matching.specs.declared.Found.the-variants.{At, Nothing}
-use Rattle.matching.specs.Meaning.{soughtAt, soughtFrom, templateIs, mismatchIs, foundIs}
+use Rattle.matching.specs.Meaning.{templateFieldAt, templateFieldsFrom, templateIs, mismatchIs, foundIs}
 
 -- field f of a template, and so many from f on
-abbrev pub fieldAt : Template → ℕ → Sought
-fieldAt t f = soughtAt (t .kinds) (t .given) (t .bits) f
+abbrev pub fieldAt : Template → ℕ → TemplateField
+fieldAt t f = templateFieldAt (t .kinds) (t .given) (t .bits) f
 
-abbrev fieldsFrom : Template → (f count : ℕ) → List Sought
-fieldsFrom t f n = soughtFrom (t .kinds) (t .given) (t .bits) f n
+abbrev fieldsFrom : Template → (f count : ℕ) → List TemplateField
+fieldsFrom t f n = templateFieldsFrom (t .kinds) (t .given) (t .bits) f n
 
 -- ---- one pair of corresponding fields: field f of a template and a value
 
@@ -58,12 +58,12 @@ module _ (t : Template) (f : ℕ) (v : Value) where
 -- ---- the pairs from field f on, of n
 
 -- a test of each
-unfoldable pub pairsFrom : (Sought → Value → Bool) → Template → (tuples : List ℕ) (i n f : ℕ) → Bool
+unfoldable pub pairsFrom : (TemplateField → Value → Bool) → Template → (tuples : List ℕ) (i n f : ℕ) → Bool
 pairsFrom test t p i n f = eachPair test (fieldsFrom t f (n - f)) (valuesFrom p i n f)
 
-module _ (test : Sought → Value → Bool) (t : Template) (p : List ℕ) (i n f : ℕ) where
+module _ (test : TemplateField → Value → Bool) (t : Template) (p : List ℕ) (i n f : ℕ) where
   pairs-step : f < n → pairsFrom test t p i n f ≡ (test (fieldAt t f) (valueIn p i f) && pairsFrom test t p i n (f + 1))
-  unfolding pairsFrom soughtFrom eachPair
+  unfolding pairsFrom templateFieldsFrom eachPair
   pairs-step h =
       let e : n - f ≡ suc (n - (f + 1)) = omega arith in
       let fields : fieldsFrom t f (n - f) ≡ fieldAt t f ∷ fieldsFrom t (f + 1) (n - (f + 1)) = rw (e, add-one f) in
@@ -79,31 +79,31 @@ module _ (test : Sought → Value → Bool) (t : Template) (p : List ℕ) (i n f
 
   -- the end
   pub pairs-end : n ≤ f → pairsFrom test t p i n f ≡ true
-  unfolding pairsFrom soughtFrom eachPair
+  unfolding pairsFrom templateFieldsFrom eachPair
   pairs-end h = let e : n - f ≡ 0 = omega arith in rw e
 
 -- ---- one tuple
 
-pub sought-length : (t : Template) (f n : ℕ) → length (fieldsFrom t f n) ≡ n
-unfolding soughtFrom
-sought-length t f zero = refl
-sought-length t f (suc n) = ap suc (sought-length t (suc f) n)
+pub template-length : (t : Template) (f n : ℕ) → length (fieldsFrom t f n) ≡ n
+unfolding templateFieldsFrom
+template-length t f zero = refl
+template-length t f (suc n) = ap suc (template-length t (suc f) n)
 
 -- c: the number of values of the tuple at index i
 module _ (t : Template) (p : List ℕ) (i c : ℕ) (has : c ≡ length ((tupleAt p i) .values)) where
-  abbrev pairs : (Sought → Value → Bool) → Bool
+  abbrev pairs : (TemplateField → Value → Bool) → Bool
   pairs test = pairsFrom test t p i (t .count) 0
 
   pub count-told : (c ≡ t .count → ⊥) → mismatchIs Count ≡ firstMismatch (templateIs t) (tupleAt p i)
   unfolding mismatchIs firstMismatch sameCount
-  count-told d = rw (← has, sought-length t 0 (t .count), ne-eqb c (t .count) d)
+  count-told d = rw (← has, template-length t 0 (t .count), ne-eqb c (t .count) d)
 
   module _ (e : c ≡ t .count) (few : t .count ≤ mostFields) where
     same-count : sameCount (templateIs t) (tupleAt p i) ≡ true
     unfolding sameCount
-    same-count = rw (← has, sought-length t 0 (t .count)) (eq-eqb c (t .count) e)
+    same-count = rw (← has, template-length t 0 (t .count)) (eq-eqb c (t .count) e)
 
-    all-pairs : (test : Sought → Value → Bool) → eachPair test (fieldsFrom t 0 (t .count)) ((tupleAt p i) .values) ≡ pairs test
+    all-pairs : (test : TemplateField → Value → Bool) → eachPair test (fieldsFrom t 0 (t .count)) ((tupleAt p i) .values) ≡ pairs test
     unfolding pairsFrom
     all-pairs test = rw (values-of p i (t .count) (sym has ∙ e) few, ← from-first p i (t .count), sub-zero (t .count))
 
@@ -122,13 +122,13 @@ module _ (t : Template) (p : List ℕ) (i c : ℕ) (has : c ≡ length ((tupleAt
 -- ---- a match
 
 module _ (t : Template) (u : Tuple) (s : ℕ) (of : s ≡ u .space) where
-  pub fits-space : (s ≡ t .space → ⊥) → false ≡ fits (templateIs t) u
-  unfolding fits sameSpace
-  fits-space d = rw (ne-eqb (u .space) (t .space) (λ e. d (of ∙ e)))
+  pub match-space : (s ≡ t .space → ⊥) → false ≡ isMatch (templateIs t) u
+  unfolding isMatch sameSpace
+  match-space d = rw (ne-eqb (u .space) (t .space) (λ e. d (of ∙ e)))
 
-  pub fits-told : s ≡ t .space → (m : Mismatch) → m ≡ firstMismatch (templateIs t) u → eqb (mismatchNumber m) 0 ≡ fits (templateIs t) u
-  unfolding fits sameSpace
-  fits-told e m q = rw (q, eq-eqb (u .space) (t .space) (sym of ∙ e))
+  pub match-told : s ≡ t .space → (m : Mismatch) → m ≡ firstMismatch (templateIs t) u → eqb (mismatchNumber m) 0 ≡ isMatch (templateIs t) u
+  unfolding isMatch sameSpace
+  match-told e m q = rw (q, eq-eqb (u .space) (t .space) (sym of ∙ e))
 
 -- ---- the search
 

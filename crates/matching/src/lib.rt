@@ -4,7 +4,7 @@ ghost use Prim.Native.Nat.{_+_, _≤_};
 ghost use lib.ListN.{length};
 ghost use Rattle.basis.specs.Lists.{first};
 ghost use Rattle.basis.specs.Sizes.{mostTuples, mostFields, tupleSize, tuplesSize};
-ghost use Rattle.model.specs.Matching.{firstMismatch, fits};
+ghost use Rattle.model.specs.Matching.{firstMismatch, isMatch};
 ghost use Rattle.tuples.specs.Section.{tupleAt, tuplesOf};
 ghost use Rattle.sections.specs.Rows.{HasRows};
 ghost use Rattle.matching.specs.Meaning.{templateIs, mismatchIs, foundIs};
@@ -31,8 +31,8 @@ pub enum Found {
     Nothing,
 }
 
-// The conditions of 5.1 in their order, on a template, its μ, and the tuple at index i, its τ. (No tuple has more than six fields: said of the
-// loops, this lets the compiler write out their turns.)
+// The conditions of 5.1 in their order, on a template, the μ of the page, and the tuple at index i, its τ. (Both loops end at the sixth field and are
+// left at the template's count, which lets the compiler write out their turns.)
 pub fn first_mismatch(tuples: &[u8], i: usize, template: Template) -> Mismatch
     requires { ⌜ HasRows tupleSize (now tuples) (i + 1) × (template .count ≤ mostFields) ⌝ }
     ensures { λ r. ⌜ mismatchIs r ≡ firstMismatch (templateIs template) (tupleAt (now (tuples .entry)) i) ⌝ }
@@ -71,9 +71,9 @@ pub fn first_mismatch(tuples: &[u8], i: usize, template: Template) -> Mismatch
 }
 
 // A match: the same space, and none fails.
-pub fn fits(tuples: &[u8], i: usize, template: Template) -> bool
+pub fn is_match(tuples: &[u8], i: usize, template: Template) -> bool
     requires { ⌜ HasRows tupleSize (now tuples) (i + 1) × (template .count ≤ mostFields) ⌝ }
-    ensures { λ r. ⌜ r ≡ fits (templateIs template) (tupleAt (now (tuples .entry)) i) ⌝ }
+    ensures { λ r. ⌜ r ≡ isMatch (templateIs template) (tupleAt (now (tuples .entry)) i) ⌝ }
 {
     if tuples::space(tuples, i) != template.space {
         return false;
@@ -89,11 +89,11 @@ pub fn fits(tuples: &[u8], i: usize, template: Template) -> bool
 // "the oldest match": the first of n tuples that the template matches.
 pub fn find(tuples: &[u8], n: usize, template: Template) -> Found
     requires { ⌜ (length (now tuples) ≡ tuplesSize) × (n ≤ mostTuples) × (template .count ≤ mostFields) ⌝ }
-    ensures { λ r. ⌜ foundIs (now (tuples .entry)) r ≡ first (fits (templateIs template)) (tuplesOf (now (tuples .entry)) n) ⌝ }
+    ensures { λ r. ⌜ foundIs (now (tuples .entry)) r ≡ first (isMatch (templateIs template)) (tuplesOf (now (tuples .entry)) n) ⌝ }
 {
     let mut i = 0;
     while i < n {
-        if fits(tuples, i, template) {
+        if is_match(tuples, i, template) {
             return Found::At(i);
         }
         i += 1;

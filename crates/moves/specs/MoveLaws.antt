@@ -14,7 +14,7 @@ use Rattle.basis.specs.ListLaws.{Each, each-map, keep-in, keep-length}
 use Rattle.basis.specs.Numbers.{bigEndian}
 use Rattle.basis.specs.NumberLaws.{bigEndian-length}
 use Rattle.basis.specs.Sizes.{spaceWidth, spaceNumbers, mostTuples, tupleSize, tuplesSize}
-use Rattle.model.specs.Matching.{Tuple, sameSpace, fits, taken}
+use Rattle.model.specs.Matching.{Tuple, sameSpace, isMatch, selected}
 use Rattle.model.specs.Execution.{inSpace, moved}
 use Rattle.model.specs.Valid.{legalTuple}
 use Rattle.layout.specs.States.{tupleRead}
@@ -30,7 +30,7 @@ use Rattle.tuples.specs.SectionLaws.{read-take, entry-is, space-set}
 use Rattle.matching.specs.declared.Template.{Template}
 use Rattle.moves.specs.declared.Copied.the-variants.{Now, Full}
 use Rattle.matching.specs.Meaning.{templateIs}
-use Rattle.matching.specs.SearchLaws.{sought-length}
+use Rattle.matching.specs.SearchLaws.{template-length}
 use Rattle.tuples.specs.Entry.{withSpace}
 use Rattle.moves.specs.Moves.{others, relocated, Copies}
 
@@ -38,32 +38,32 @@ use Rattle.moves.specs.Moves.{others, relocated, Copies}
 
 module _ (t : Template) (u : Tuple) where
   -- all of the space
-  pub taken-space : (s : ℕ) → s ≡ u .space → t .count ≡ 0 → eqb s (t .space) ≡ taken (templateIs t) u
-  unfolding taken sameSpace
-  taken-space s e z = rw (sought-length t 0 (t .count), eq-eqb (t .count) 0 z, e)
+  pub selected-space : (s : ℕ) → s ≡ u .space → t .count ≡ 0 → eqb s (t .space) ≡ selected (templateIs t) u
+  unfolding selected sameSpace
+  selected-space s e z = rw (template-length t 0 (t .count), eq-eqb (t .count) 0 z, e)
 
   -- where there are fields, those that match
-  pub taken-fits : (t .count ≡ 0 → ⊥) → fits (templateIs t) u ≡ taken (templateIs t) u
-  unfolding taken
-  taken-fits z = rw (sought-length t 0 (t .count), ne-eqb (t .count) 0 z)
+  pub selected-match : (t .count ≡ 0 → ⊥) → isMatch (templateIs t) u ≡ selected (templateIs t) u
+  unfolding selected
+  selected-match z = rw (template-length t 0 (t .count), ne-eqb (t .count) 0 z)
 
 -- ---- the others, closed up
 
 -- a row that is kept
 abbrev pub otherRow : Template → List ℕ → Bool
-otherRow t r = not (taken (templateIs t) (tupleRead r))
+otherRow t r = not (selected (templateIs t) (tupleRead r))
 
 -- the row that is tested is the section's
-pub tested : (t : Template) (p₀ p : List ℕ) (n m i : ℕ) → Sifted (otherRow t) tupleSize p₀ n p m i → i < n → (b : Bool) → taken (templateIs t) (tupleAt p i) ≡ b → otherRow t (getD (pieces n tupleSize p₀) i []) ≡ not b
+pub tested : (t : Template) (p₀ p : List ℕ) (n m i : ℕ) → Sifted (otherRow t) tupleSize p₀ n p m i → i < n → (b : Bool) → selected (templateIs t) (tupleAt p i) ≡ b → otherRow t (getD (pieces n tupleSize p₀) i []) ≡ not b
 unfolding tupleAt entryAt
 tested t p₀ p n m i k h b e =
     let same : entryAt p i ≡ getD (pieces n tupleSize p₀) i [] = ap (take tupleSize) (k .back) ∙ sym (pieces-at n tupleSize p₀ i h) in
-    ap not (ap (λ (r : List ℕ). taken (templateIs t) (tupleRead r)) (sym same) ∙ e)
+    ap not (ap (λ (r : List ℕ). selected (templateIs t) (tupleRead r)) (sym same) ∙ e)
 
 pub others-kept : (t : Template) (p q : List ℕ) (n m : ℕ) → Section p n → Rows (length p) tupleSize q m (keep (otherRow t) (pieces n tupleSize p)) → Holds q m (others t (tuplesOf p n))
 unfolding others
 others-kept t p q n m s r =
-    holds-keep tupleShape p n (tuplesOf p n) s (otherRow t) (λ (u : Tuple). not (taken (templateIs t) u)) (λ u l. ap (λ (v : Tuple). not (taken (templateIs t) v)) (tupleShape .back u l)) q m r
+    holds-keep tupleShape p n (tuplesOf p n) s (otherRow t) (λ (u : Tuple). not (selected (templateIs t) u)) (λ u l. ap (λ (v : Tuple). not (selected (templateIs t) v)) (tupleShape .back u l)) q m r
 
 -- ---- the selected ones, held beside the section
 
@@ -85,11 +85,11 @@ pub gather-none : (t : Template) (to : ℕ) (p b : List ℕ) (n : ℕ) → First
 gather-none t to p b n = rows-none tupleShape b (relocated t to []) (unfold relocated keep in refl)
 
 module _ (t : Template) (to : ℕ) (p b : List ℕ) (n h i : ℕ) (s : Section p n) (k : i < n) (f : FirstRows tupleShape b h (relocated t to (take i (tuplesOf p n)))) where
-  pub gather-no : taken (templateIs t) (tupleAt p i) ≡ false → FirstRows tupleShape b h (relocated t to (take (i + 1) (tuplesOf p n)))
+  pub gather-no : selected (templateIs t) (tupleAt p i) ≡ false → FirstRows tupleShape b h (relocated t to (take (i + 1) (tuplesOf p n)))
   unfolding relocated
-  gather-no e = rw (read-take p n i k, keep-no (taken (templateIs t)) (take i (tuplesOf p n)) (tupleAt p i) e) f
+  gather-no e = rw (read-take p n i k, keep-no (selected (templateIs t)) (take i (tuplesOf p n)) (tupleAt p i) e) f
 
-  pub gather-yes : (c : List ℕ) → HasRows tupleSize b (h + 1) → taken (templateIs t) (tupleAt p i) ≡ true
+  pub gather-yes : (c : List ℕ) → HasRows tupleSize b (h + 1) → selected (templateIs t) (tupleAt p i) ≡ true
       → c ≡ rowsOver tupleSize b h (withSpace to (rowsFrom tupleSize p i)) 1 → FirstRows tupleShape c (h + 1) (relocated t to (take (i + 1) (tuplesOf p n)))
   unfolding relocated
   gather-yes c room e stored =
@@ -104,7 +104,7 @@ module _ (t : Template) (to : ℕ) (p b : List ℕ) (n h i : ℕ) (s : Section p
       let is : take tupleSize d ≡ entryBytes (tupleAt p i) = unfold entryAt in entry-is p n i s k in
       let new : take tupleSize (over d 0 x spaceWidth) ≡ entryBytes (inSpace to (tupleAt p i)) =
       take-over-past d 0 x spaceWidth (omega arith) (omega arith) tupleSize (omega arith) long ∙ ap (λ (r : List ℕ). over r 0 x spaceWidth) is ∙ space-set (tupleAt p i) to in
-      rw (read-take p n i k, keep-yes (taken (templateIs t)) ts (tupleAt p i) e, map-append (inSpace to) (keep (taken (templateIs t)) ts) (tupleAt p i ∷ []))
+      rw (read-take p n i k, keep-yes (selected (templateIs t)) ts (tupleAt p i) e, map-append (inSpace to) (keep (selected (templateIs t)) ts) (tupleAt p i ∷ []))
       (rows-one-more tupleShape b c (over d 0 x spaceWidth) h (relocated t to ts) (inSpace to (tupleAt p i)) f room (omega arith) new stored)
 
 pub gather-all : (t : Template) (to : ℕ) (p b : List ℕ) (n h i : ℕ) → n ≤ i → FirstRows tupleShape b h (relocated t to (take i (tuplesOf p n))) → FirstRows tupleShape b h (relocated t to (tuplesOf p n))
@@ -116,19 +116,19 @@ gather-all t to p b n h i past f =
 
 relocated-legal : (t : Template) (to : ℕ) (ts : List Tuple) → to < spaceNumbers → Each Legal ts → Each Legal (relocated t to ts)
 unfolding relocated inSpace legalTuple
-relocated-legal t to ts h l = each-map Legal (inSpace to) (keep (taken (templateIs t)) ts) (λ u m. (l u (keep-in (taken (templateIs t)) ts u m) .0, h))
+relocated-legal t to ts h l = each-map Legal (inSpace to) (keep (selected (templateIs t)) ts) (λ u m. (l u (keep-in (selected (templateIs t)) ts u m) .0, h))
 
 -- how many there are
 relocated-length : (t : Template) (to : ℕ) (ts : List Tuple) → length (others t ts) + length (relocated t to ts) ≡ length ts
 unfolding others relocated
-relocated-length t to ts = rw (length-map (keep (taken (templateIs t)) ts) (inSpace to)) (keep-length (taken (templateIs t)) ts)
+relocated-length t to ts = rw (length-map (keep (selected (templateIs t)) ts) (inSpace to)) (keep-length (selected (templateIs t)) ts)
 
 pub moved-count : (t : Template) (to : ℕ) (p a b : List ℕ) (n m h : ℕ) → Holds a m (others t (tuplesOf p n)) → FirstRows tupleShape b h (relocated t to (tuplesOf p n)) → m + h ≡ n
 moved-count t to p a b n m h o f = omega (arith, holds-count tupleShape a m (others t (tuplesOf p n)) o, f .count, relocated-length t to (tuplesOf p n), items-length tupleShape p n)
 
 -- move
 pub moved-is : (t : Template) (to : ℕ) (p a q b : List ℕ) (n m h : ℕ) → Section p n → to < spaceNumbers → Holds a m (others t (tuplesOf p n)) → FirstRows tupleShape b h (relocated t to (tuplesOf p n))
-    → q ≡ rowsOver tupleSize a m b h → Holds q n (moved (taken (templateIs t)) to (tuplesOf p n))
+    → q ≡ rowsOver tupleSize a m b h → Holds q n (moved (selected (templateIs t)) to (tuplesOf p n))
 unfolding moved others relocated
 moved-is t to p a q b n m h s small o f stored =
     let e : m + h ≡ n = moved-count t to p a b n m h o f in

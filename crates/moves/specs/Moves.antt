@@ -6,7 +6,7 @@ use mathlib.Core.List.{List, _++_, map}
 use lib.ListN.{length}
 use Rattle.basis.specs.Lists.{keep}
 use Rattle.basis.specs.Sizes.{mostTuples}
-use Rattle.model.specs.Matching.{Tuple, taken}
+use Rattle.model.specs.Matching.{Tuple, selected}
 use Rattle.model.specs.Execution.{inSpace}
 use Rattle.tuples.specs.Section.{tuplesOf, Holds}
 use Rattle.matching.specs.declared.Template.{Template}
@@ -16,11 +16,11 @@ use Rattle.matching.specs.Meaning.{templateIs}
 
 -- the tuples that the template does not select
 unfoldable pub others : Template → List Tuple → List Tuple
-others t ts = keep (λ u. not (taken (templateIs t) u)) ts
+others t ts = keep (λ u. not (selected (templateIs t) u)) ts
 
 -- those that it selects, in another space
 unfoldable pub relocated : Template → (to : ℕ) → List Tuple → List Tuple
-relocated t to ts = map (inSpace to) (keep (taken (templateIs t)) ts)
+relocated t to ts = map (inSpace to) (keep (selected (templateIs t)) ts)
 
 -- what an answer of copy says of the section p of n tuples, which q is after it, and of the copies: they are appended, and the count is
 -- the new one; or they "would pass 512", and nothing changed

@@ -3,7 +3,7 @@ ghost use mathlib.Core.Path.{_≡_};
 ghost use Prim.Native.Nat.{_+_, _≤_, _<_};
 ghost use lib.ListN.{length};
 ghost use Rattle.basis.specs.Sizes.{spaceNumbers, mostFields, tupleSize, tuplesSize};
-ghost use Rattle.model.specs.Matching.{taken};
+ghost use Rattle.model.specs.Matching.{selected};
 ghost use Rattle.model.specs.Execution.{moved};
 ghost use Rattle.sections.specs.FirstRows.{FirstRows};
 ghost use Rattle.tuples.specs.Section.{tupleShape, tupleAt, tuplesOf, Holds, Section};
@@ -22,12 +22,12 @@ pub enum Copied {
 // Whether move and copy take the tuple at index i: "0 fields match every tuple of the space".
 fn selected(tuples: &[u8], i: usize, template: Template) -> bool
     requires { ⌜ HasRows tupleSize (now tuples) (i + 1) × (template .count ≤ mostFields) ⌝ }
-    ensures { λ r. ⌜ r ≡ taken (templateIs template) (tupleAt (now (tuples .entry)) i) ⌝ }
+    ensures { λ r. ⌜ r ≡ selected (templateIs template) (tupleAt (now (tuples .entry)) i) ⌝ }
 {
     if template.count == 0 {
         return tuples::space(tuples, i) == template.space;
     }
-    matching::fits(tuples, i, template)
+    matching::is_match(tuples, i, template)
 }
 
 // The tuples that the template does not select, in their order and in place; how many.
@@ -81,7 +81,7 @@ fn gather(held: &mut [u8], tuples: &[u8], n: usize, template: Template, to: u16)
 // "move removes all matches and appends them to the new space in their old order".
 pub fn move_all(tuples: &mut [u8], n: usize, template: Template, to: u16)
     requires { ⌜ Section (now tuples) n × (template .count ≤ mostFields) × (to < spaceNumbers) ⌝ }
-    ensures { λ _. ⌜ Holds (now (tuples .exit)) n (moved (taken (templateIs template)) to (tuplesOf (now (tuples .entry)) n)) ⌝ }
+    ensures { λ _. ⌜ Holds (now (tuples .exit)) n (moved (selected (templateIs template)) to (tuplesOf (now (tuples .entry)) n)) ⌝ }
 {
     let mut held = [0u8; words::TUPLES];
     let h = gather(&mut held, tuples, n, template, to);

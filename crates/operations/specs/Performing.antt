@@ -16,7 +16,7 @@ use Rattle.model.specs.Value.{Value}
 use Rattle.model.specs.Statement as Model
 use Rattle.model.specs.Statement.{deposit, transfer}
 use Rattle.model.specs.Valid.{legalTuple}
-use Rattle.model.specs.Matching.{Tuple, Bindings, template, fits, taken, matches, selects, oldest, bind}
+use Rattle.model.specs.Matching.{Tuple, Bindings, template, isMatch, selected, matches, selects, oldest, bind}
 use Rattle.model.specs.MatchingLaws.{matched}
 use Rattle.model.specs.Execution.{Result, done, failed, lookedUp, madeAll, appended, inSpace, moved, perform}
 use Rattle.matching.specs.declared.Template.{Template}
@@ -62,35 +62,35 @@ unfoldable pub lookUp : (withdraws : Bool) → Bindings → ℕ → List Model.F
 lookUp withdraws bs s fs ts = maybe (oldest bs s fs ts) (failed 16) (lookedUp withdraws fs bs ts)
 
 module _ (bs : Bindings) (s : ℕ) (fs : List Model.Field) (p : List ℕ) (n : ℕ) (t : Template) (a : templateIs t ≡ template bs s fs) where
-  found-oldest : (r : declared.Found) → foundIs p r ≡ first (fits (templateIs t)) (tuplesOf p n) → oldest bs s fs (tuplesOf p n) ≡ foundIs p r
+  found-oldest : (r : declared.Found) → foundIs p r ≡ first (isMatch (templateIs t)) (tuplesOf p n) → oldest bs s fs (tuplesOf p n) ≡ foundIs p r
   unfolding oldest
-  found-oldest r e = ap (λ (h : Tuple → Bool). first h (tuplesOf p n)) (sym (ap fits a)) ∙ sym e
+  found-oldest r e = ap (λ (h : Tuple → Bool). first h (tuplesOf p n)) (sym (ap isMatch a)) ∙ sym e
 
-  pub look-none : (withdraws : Bool) (v : Vars) (q : List ℕ) → foundIs p Nothing ≡ first (fits (templateIs t)) (tuplesOf p n) → Leaves (lookUp withdraws bs s fs (tuplesOf p n)) 16 n v q
+  pub look-none : (withdraws : Bool) (v : Vars) (q : List ℕ) → foundIs p Nothing ≡ first (isMatch (templateIs t)) (tuplesOf p n) → Leaves (lookUp withdraws bs s fs (tuplesOf p n)) 16 n v q
   unfolding lookUp foundIs
   look-none withdraws v q e = rw (found-oldest Nothing e) (leaves-failed 15 n v q)
 
   -- the tuple at a found index matches
-  at-first : (i : ℕ) → foundIs p (At i) ≡ first (fits (templateIs t)) (tuplesOf p n) → First (matches bs s fs) (tuplesOf p n) (record { index = i; item = tupleAt p i })
+  at-first : (i : ℕ) → foundIs p (At i) ≡ first (isMatch (templateIs t)) (tuplesOf p n) → First (matches bs s fs) (tuplesOf p n) (record { index = i; item = tupleAt p i })
   unfolding foundIs oldest
   at-first i e = first-some (matches bs s fs) (tuplesOf p n) (record { index = i; item = tupleAt p i }) (found-oldest (At i) e)
 
-  pub at-below : (i : ℕ) → foundIs p (At i) ≡ first (fits (templateIs t)) (tuplesOf p n) → i < n
+  pub at-below : (i : ℕ) → foundIs p (At i) ≡ first (isMatch (templateIs t)) (tuplesOf p n) → i < n
   at-below i e = subst (λ (m : ℕ). i < m) (items-length tupleShape p n) (first-below (matches bs s fs) (tuplesOf p n) (record { index = i; item = tupleAt p i }) (at-first i e))
 
-  pub at-count : (i : ℕ) → foundIs p (At i) ≡ first (fits (templateIs t)) (tuplesOf p n) → length ((tupleAt p i) .values) ≡ length fs
+  pub at-count : (i : ℕ) → foundIs p (At i) ≡ first (isMatch (templateIs t)) (tuplesOf p n) → length ((tupleAt p i) .values) ≡ length fs
   at-count i e = matched bs s fs (tupleAt p i) (at-first i e .passes) .0
 
-  look-at : (withdraws : Bool) (i : ℕ) → foundIs p (At i) ≡ first (fits (templateIs t)) (tuplesOf p n)
+  look-at : (withdraws : Bool) (i : ℕ) → foundIs p (At i) ≡ first (isMatch (templateIs t)) (tuplesOf p n)
       → done (bind bs fs ((tupleAt p i) .values)) (cond withdraws (removeAt i (tuplesOf p n)) (tuplesOf p n)) ≡ lookUp withdraws bs s fs (tuplesOf p n)
   unfolding lookUp lookedUp foundIs
   look-at withdraws i e = rw (found-oldest (At i) e)
 
-  pub look-removed : (withdraws : Bool) → withdraws ≡ true → (i : ℕ) (v : Vars) (q : List ℕ) → foundIs p (At i) ≡ first (fits (templateIs t)) (tuplesOf p n) → bindingsOf v ≡ bind bs fs ((tupleAt p i) .values) → Holds q (n - 1) (removeAt i (tuplesOf p n))
+  pub look-removed : (withdraws : Bool) → withdraws ≡ true → (i : ℕ) (v : Vars) (q : List ℕ) → foundIs p (At i) ≡ first (isMatch (templateIs t)) (tuplesOf p n) → bindingsOf v ≡ bind bs fs ((tupleAt p i) .values) → Holds q (n - 1) (removeAt i (tuplesOf p n))
       → Leaves (lookUp withdraws bs s fs (tuplesOf p n)) 0 (n - 1) v q
   look-removed withdraws w i v q e b h = rw w (subst (λ (x : Result). Leaves x 0 (n - 1) v q) (look-at true i e) (leaves-done _ _ (n - 1) v q b h))
 
-  pub look-read : (withdraws : Bool) → withdraws ≡ false → (i : ℕ) (v : Vars) → foundIs p (At i) ≡ first (fits (templateIs t)) (tuplesOf p n) → bindingsOf v ≡ bind bs fs ((tupleAt p i) .values) → Section p n
+  pub look-read : (withdraws : Bool) → withdraws ≡ false → (i : ℕ) (v : Vars) → foundIs p (At i) ≡ first (isMatch (templateIs t)) (tuplesOf p n) → bindingsOf v ≡ bind bs fs ((tupleAt p i) .values) → Section p n
       → Leaves (lookUp withdraws bs s fs (tuplesOf p n)) 0 n v p
   look-read withdraws w i v e b h = rw w (subst (λ (x : Result). Leaves x 0 n v p) (look-at false i e) (leaves-done _ _ n v p b h))
 
@@ -150,14 +150,14 @@ module _ (bs : Bindings) (s : ℕ) (fs : List Model.Field) (p : List ℕ) (n : �
 -- ---- move and copy
 
 module _ (bs : Bindings) (from to : ℕ) (fs : List Model.Field) (p : List ℕ) (n : ℕ) (v : Vars) (e : bindingsOf v ≡ bs) (t : Template) (a : templateIs t ≡ template bs from fs) where
-  pub transfer-moved : (q : List ℕ) (withdraws : Bool) → withdraws ≡ true → Holds q n (moved (taken (templateIs t)) to (tuplesOf p n)) → Leaves (perform (transfer withdraws from to fs) bs (tuplesOf p n)) 0 n v q
+  pub transfer-moved : (q : List ℕ) (withdraws : Bool) → withdraws ≡ true → Holds q n (moved (selected (templateIs t)) to (tuplesOf p n)) → Leaves (perform (transfer withdraws from to fs) bs (tuplesOf p n)) 0 n v q
   unfolding perform
-  transfer-moved q withdraws w h = rw w (leaves-done bs _ n v q e (subst (λ (s : Tuple → Bool). Holds q n (moved s to (tuplesOf p n))) (ap taken a) h))
+  transfer-moved q withdraws w h = rw w (leaves-done bs _ n v q e (subst (λ (s : Tuple → Bool). Holds q n (moved s to (tuplesOf p n))) (ap selected a) h))
 
   -- the copies
   copies : relocated t to (tuplesOf p n) ≡ map (inSpace to) (keep (selects bs from fs) (tuplesOf p n))
   unfolding relocated
-  copies = ap (λ (s : Tuple → Bool). map (inSpace to) (keep s (tuplesOf p n))) (ap taken a)
+  copies = ap (λ (s : Tuple → Bool). map (inSpace to) (keep s (tuplesOf p n))) (ap selected a)
 
   pub transfer-full : (q : List ℕ) (withdraws : Bool) → withdraws ≡ false → Copies Full p q n (relocated t to (tuplesOf p n)) → Leaves (perform (transfer withdraws from to fs) bs (tuplesOf p n)) 12 n v q
   unfolding perform appended

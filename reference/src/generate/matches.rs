@@ -3,9 +3,11 @@
 
 use super::rng::Rng;
 use super::statements;
+use crate::layout::encode;
 use crate::matching::{first_failing, Failing};
-use crate::run::Tuple;
-use crate::statement::{Field, Operation, SpaceNumber, COPY, IN, INP, MOST_FIELDS, MOVE, RD, RDP};
+use crate::run::{Run, Space, Tuple};
+use crate::statement::{self, Branch, Field, Operation, SpaceNumber, Statement};
+use crate::statement::{COPY, IN, INP, MOST_FIELDS, MOVE, RD, RDP, TRUE};
 use crate::value::{whole, Value, METRES, NAME, WHOLE};
 
 const VARIABLES: usize = 16;
@@ -20,6 +22,54 @@ pub struct Match {
 impl Match {
     pub fn answer(&self) -> Failing {
         first_failing(&self.operation.fields, &self.bound, &self.tuple.values)
+    }
+
+    /// A space of neither the template nor 0, for the tuples that the variables are bound by.
+    fn spare(&self) -> SpaceNumber {
+        (1..).find(|number| !self.operation.spaces.contains(number)).unwrap()
+    }
+
+    /// A statement that binds the variables by in of the spare space, then has the operation. With
+    /// nothing bound codes 1 to 4 are the guard.
+    pub fn statement(&self) -> Statement {
+        let operation = self.operation.clone();
+        let bind = |(variable, value): &(u8, Value)| Field::Bind { kind: value.kind, variable: *variable };
+        let groups = self.bound.chunks(MOST_FIELDS).map(|group| group.iter().map(bind).collect());
+        let binding = groups.map(|fields| Operation { code: IN, spaces: vec![self.spare()], fields });
+        let mut body: Vec<Operation> = binding.collect();
+        let mut guard = Operation { code: TRUE, spaces: vec![], fields: vec![] };
+        if body.is_empty() && operation.code <= RDP {
+            guard = operation;
+        } else {
+            body.push(operation);
+        }
+        Statement { host: 2, process: 5, branches: vec![Branch { guard, body }] }
+    }
+
+    /// The statement's record, the first after `state`.
+    pub fn record(&self) -> Vec<u8> {
+        let body = statement::write(&self.statement());
+        let mut record = b"AG".to_vec();
+        record.extend((body.len() as u16).to_be_bytes());
+        record.extend(1u32.to_be_bytes());
+        record.extend(body);
+        record
+    }
+
+    /// A state with the tuple behind those that the variables are bound by.
+    pub fn state(&self) -> Vec<u8> {
+        let mut run = Run { next: 65_536, ..Run::fresh() };
+        run.up[2] = true;
+        let mut numbers = self.operation.spaces.clone();
+        numbers.extend([0, self.spare()]);
+        numbers.sort();
+        numbers.dedup();
+        run.spaces = numbers.iter().map(|number| Space { number: *number, private: false, owner: 0 }).collect();
+        for group in self.bound.chunks(MOST_FIELDS) {
+            run.tuples.push(Tuple { space: self.spare(), values: group.iter().map(|(_, value)| *value).collect() });
+        }
+        run.tuples.push(self.tuple.clone());
+        encode(&run)
     }
 }
 

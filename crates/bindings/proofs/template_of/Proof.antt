@@ -6,8 +6,8 @@ use Prim.Native.Nat.{_≤_, _<_, _-_}
 use native.Mathlib.Omega.{arith}
 use lib.ListN.{length, take}
 use Rattle.basis.specs.Sizes.{mostFields}
-use Rattle.model.specs.Matching.{Sought, sought}
-use Rattle.matching.specs.Meaning.{soughtFrom}
+use Rattle.model.specs.Matching.{TemplateField, templateField}
+use Rattle.matching.specs.Meaning.{templateFieldsFrom}
 use Rattle.statements.specs.Flat.{fieldsAre}
 use Rattle.bindings.specs.Variables.{bindingsOf}
 use Rattle.bindings.specs.Templates.{ask-turn}
@@ -17,13 +17,13 @@ use Rattle.bindings.proofs.template_of.Tie as tie
 
 abbrev Inv-loop : tie.InvT-loop
 Inv-loop v op kinds₀ given₀ bits₀ n i₀ kinds given bits i =
-    (i ≤ n) × (soughtFrom kinds given bits 0 i ≡ map (sought (bindingsOf v)) (fieldsAre (take i (op .fields)))) × (length kinds ≡ mostFields) × (length given ≡ mostFields) × (length bits ≡ mostFields)
+    (i ≤ n) × (templateFieldsFrom kinds given bits 0 i ≡ map (templateField (bindingsOf v)) (fieldsAre (take i (op .fields)))) × (length kinds ≡ mostFields) × (length given ≡ mostFields) × (length bits ≡ mostFields)
 
 abbrev μ-loop : tie.MeasureT-loop
 μ-loop v op kinds₀ given₀ bits₀ n i₀ kinds given bits i = n - i
 
 loop-holds : tie.Need-loop-holds Inv-loop μ-loop
-unfolding fieldsAre soughtFrom
+unfolding fieldsAre templateFieldsFrom
 loop-holds c = (search needs, refl, refl, refl, refl)
 
 mul-asked : tie.Need-mul-asked Inv-loop μ-loop
@@ -71,7 +71,7 @@ returns : tie.Need-returns Inv-loop μ-loop
 returns c =
     let start = c .before .before in
     let end : c .before .loop .i ≡ start .args .t1 .count = omega (arith, c .before .loop .inv .0, c .loop-test .left) in
-    (ap (λ (fs : List Sought). record { space = start .args .t1 .from; fields = fs }) (rw end at (c .before .loop .inv .1)), start .pre)
+    (ap (λ (fs : List TemplateField). record { space = start .args .t1 .from; fields = fs }) (rw end at (c .before .loop .inv .1)), start .pre)
 
 pub template-of-spec : {M : Type 1} → statement M
 template-of-spec =

@@ -11,7 +11,7 @@ use Rattle.basis.specs.Sizes.{countWidth, branchCountAt}
 use mir.Syntax.{w8}
 use mir.Val.{Fits}
 use Rattle.basis.specs.Lists.{any}
-use Rattle.model.specs.Matching.{Tuple, Bindings, template, fits}
+use Rattle.model.specs.Matching.{Tuple, Bindings, template, isMatch}
 use Rattle.model.specs.Execution.{holds, chosen}
 use Rattle.statements.specs.Flat.{operationIs}
 use Rattle.tuples.specs.Section.{tuplesOf}
@@ -25,7 +25,7 @@ use Rattle.guards.proofs.search.Tie as tie
 
 abbrev Inv-tuples : tie.InvT-tuples
 Inv-tuples tuples n body count branch₀ at i guard template j₀ branch j =
-    (branch ≡ branch₀) × (j ≤ n) × (any (fits (templateIs template)) (tuplesOf tuples n) ≡ any (fits (templateIs template)) (drop j (tuplesOf tuples n)))
+    (branch ≡ branch₀) × (j ≤ n) × (any (isMatch (templateIs template)) (tuplesOf tuples n) ≡ any (isMatch (templateIs template)) (drop j (tuplesOf tuples n)))
 
 abbrev μ-tuples : tie.MeasureT-tuples
 μ-tuples tuples n body count branch₀ at i guard template j₀ branch j = n - j
@@ -81,7 +81,7 @@ module _ (c : tie.After-template-of Inv-tuples μ-tuples Inv-branches μ-branche
   abbrev reading : tie.After-read-operation Inv-tuples μ-tuples Inv-branches μ-branches
   reading = c .before .before .before .before .before
 
-  template-holds : holds (present reading) (operationIs (reading .read-operation .result .operation)) ≡ any (fits (templateIs (c .template-of .result))) (present reading)
+  template-holds : holds (present reading) (operationIs (reading .read-operation .result .operation)) ≡ any (isMatch (templateIs (c .template-of .result))) (present reading)
   template-holds =
       guard-template (reading .read-operation .result .operation) (present reading) (c .template-of .result) (here reading .is-guard) (c .before .before .if1 .left)
       (subst (λ (bs : Bindings). templateIs (c .template-of .result) ≡ template bs (reading .read-operation .result .operation .from) (fieldsIn (reading .read-operation .result .operation))) (c .before .no-vars .ensures) (c .template-of .ensures .0))
@@ -109,8 +109,8 @@ template-of-requires c κs = c .before .before .before .before .read-operation .
 tuples-holds : tie.Need-tuples-holds Inv-tuples μ-tuples Inv-branches μ-branches
 tuples-holds c = (refl, search needs, refl)
 
-fits-requires : tie.Need-fits-requires Inv-tuples μ-tuples Inv-branches μ-branches
-fits-requires c κs =
+is-match-requires : tie.Need-is-match-requires Inv-tuples μ-tuples Inv-branches μ-branches
+is-match-requires c κs =
     let t = c .before .before in
     let pre = start (reading t) .pre in
     (omega (arith, pre .0, pre .1, c .tuples-test .taken), t .template-of .ensures .1)
@@ -128,7 +128,7 @@ tuples-again : tie.Need-tuples-again Inv-tuples μ-tuples Inv-branches μ-branch
 tuples-again c =
     let j = c .before .before .before .tuples in
     let t = c .before .before .before .before in
-    (j .inv .0, search needs, j .inv .2 ∙ any-miss (t .template-of .result) (now (start (reading t) .args .tuples)) (start (reading t) .args .n) (j .j) (c .before .before .tuples-test .taken) (sym (c .before .fits2 .ensures) ∙ c .if2 .left))
+    (j .inv .0, search needs, j .inv .2 ∙ any-miss (t .template-of .result) (now (start (reading t) .args .tuples)) (start (reading t) .args .n) (j .j) (c .before .before .tuples-test .taken) (sym (c .before .is-match .ensures) ∙ c .if2 .left))
 
 add-after-operations : tie.Need-add-after-operations Inv-tuples μ-tuples Inv-branches μ-branches
 add-after-operations c =
@@ -161,7 +161,7 @@ branches-again c =
     let j = c .before .before .before .before .tuples in
     let r = reading t in
     let few : at r .branches .i < getD (bytes r) branchCountAt 0 = r .before .branches-test .taken in
-    let none : any (fits (templateIs (t .template-of .result))) (present r) ≡ false = j .inv .2 ∙ any-end (t .template-of .result) (now (start r .args .tuples)) (start r .args .n) (j .j) (c .before .before .before .tuples-test .left) in
+    let none : any (isMatch (templateIs (t .template-of .result))) (present r) ≡ false = j .inv .2 ∙ any-end (t .template-of .result) (now (start r .args .tuples)) (start r .args .n) (j .j) (c .before .before .before .tuples-test .left) in
     let same : left r - 1 ≡ getD (bytes r) branchCountAt 0 - (at r .branches .i + 1) = omega arith in (
       j .inv .0 ∙ at r .branches .inv .0,
       search needs,
@@ -183,7 +183,7 @@ returns-3 c =
     let j = c .before .before .before in
     let t = j .before in
     let r = reading t in
-    found r (template-holds t ∙ (j .tuples .inv .2 ∙ any-hit (t .template-of .result) (now (start r .args .tuples)) (start r .args .n) (j .tuples .j) (c .before .before .tuples-test .taken) (sym (c .before .fits2 .ensures) ∙ c .if2 .taken)))
+    found r (template-holds t ∙ (j .tuples .inv .2 ∙ any-hit (t .template-of .result) (now (start r .args .tuples)) (start r .args .n) (j .tuples .j) (c .before .before .tuples-test .taken) (sym (c .before .is-match .ensures) ∙ c .if2 .taken)))
 
 pub search-spec : {M : Type 1} → statement M
 search-spec =
@@ -200,7 +200,7 @@ search-spec =
     no-vars-requires
     template-of-requires
     tuples-holds
-    fits-requires
+    is-match-requires
     add-branch-2
     add-j
     tuples-less

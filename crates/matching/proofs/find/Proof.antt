@@ -3,7 +3,7 @@ use Prim.Native.Nat.{_-_, _≤_}
 use native.Mathlib.Omega.{arith}
 use mathlib.Core.Path.{_≡_, sym, _∙_}
 use Rattle.basis.specs.Lists.{first}
-use Rattle.model.specs.Matching.{fits}
+use Rattle.model.specs.Matching.{isMatch}
 use Rattle.tuples.specs.Section.{tuplesOf}
 use Rattle.matching.specs.Meaning.{templateIs}
 use Rattle.matching.specs.SearchLaws.{searched, search-all, search-hit, search-miss, search-end}
@@ -12,23 +12,23 @@ use Rattle.matching.proofs.find.Statement.{statement}
 use Rattle.matching.proofs.find.Tie as tie
 
 abbrev Inv-loop : tie.InvT-loop
-Inv-loop tuples n template i₀ i = (i ≤ n) × (first (fits (templateIs template)) (tuplesOf tuples n) ≡ searched (fits (templateIs template)) tuples n i)
+Inv-loop tuples n template i₀ i = (i ≤ n) × (first (isMatch (templateIs template)) (tuplesOf tuples n) ≡ searched (isMatch (templateIs template)) tuples n i)
 
 abbrev μ-loop : tie.MeasureT-loop
 μ-loop tuples n template i₀ i = n - i
 
 loop-holds : tie.Need-loop-holds Inv-loop μ-loop
-loop-holds c = let a = c .before .args in (omega arith, search-all (fits (templateIs (a .template))) (a .tuples .now) (a .n))
+loop-holds c = let a = c .before .args in (omega arith, search-all (isMatch (templateIs (a .template))) (a .tuples .now) (a .n))
 
-fits-requires : tie.Need-fits-requires Inv-loop μ-loop
-fits-requires c κs = search needs
+is-match-requires : tie.Need-is-match-requires Inv-loop μ-loop
+is-match-requires c κs = search needs
 
 returns : tie.Need-returns Inv-loop μ-loop
 returns c =
     let turn = c .before .before in
     let l = turn .before in
     let a = l .before .before .args in
-    search-hit (fits (templateIs (a .template))) (a .tuples .now) (a .n) (l .loop .i) (turn .loop-test .taken) (sym (c .before .fits2 .ensures) ∙ c .if1 .taken) ∙ sym (l .loop .inv .1)
+    search-hit (isMatch (templateIs (a .template))) (a .tuples .now) (a .n) (l .loop .i) (turn .loop-test .taken) (sym (c .before .is-match .ensures) ∙ c .if1 .taken) ∙ sym (l .loop .inv .1)
 
 add-i : tie.Need-add-i Inv-loop μ-loop
 add-i c = search needs
@@ -41,13 +41,13 @@ loop-again c =
     let turn = c .before .before in
     let l = turn .before in
     let a = l .before .before .args in
-    (omega arith, l .loop .inv .1 ∙ search-miss (fits (templateIs (a .template))) (a .tuples .now) (a .n) (l .loop .i) (turn .loop-test .taken) (sym (c .before .fits2 .ensures) ∙ c .if1 .left))
+    (omega arith, l .loop .inv .1 ∙ search-miss (isMatch (templateIs (a .template))) (a .tuples .now) (a .n) (l .loop .i) (turn .loop-test .taken) (sym (c .before .is-match .ensures) ∙ c .if1 .left))
 
 returns-2 : tie.Need-returns-2 Inv-loop μ-loop
 returns-2 c =
     let l = c .before in
     let a = l .before .before .args in
-    search-end (fits (templateIs (a .template))) (a .tuples .now) (a .n) (l .loop .i) (c .loop-test .left) ∙ sym (l .loop .inv .1)
+    search-end (isMatch (templateIs (a .template))) (a .tuples .now) (a .n) (l .loop .i) (c .loop-test .left) ∙ sym (l .loop .inv .1)
 
 pub find-spec : {M : Type 1} → statement M
 find-spec =
@@ -56,7 +56,7 @@ find-spec =
     Inv-loop
     μ-loop
     loop-holds
-    fits-requires
+    is-match-requires
     returns
     add-i
     loop-less

@@ -17,13 +17,13 @@ use Rattle.matching.proofs.first_mismatch.Tie as tie
 
 -- what is left to test says what all of it does
 abbrev Inv-kinds : tie.InvT-kinds
-Inv-kinds tuples i template k₀ k = (k ≤ template .count) × (pairsFrom sameKind template tuples i (template .count) 0 ≡ pairsFrom sameKind template tuples i (template .count) k)
+Inv-kinds tuples i template k₀ k = (pairsFrom sameKind template tuples i (template .count) 0 ≡ pairsFrom sameKind template tuples i (template .count) k) × (k ≤ template .count)
 
 abbrev μ-kinds : tie.MeasureT-kinds
 μ-kinds tuples i template k₀ k = mostFields - k
 
 abbrev Inv-values : tie.InvT-values
-Inv-values tuples i template k f₀ f = (f ≤ template .count) × (pairsFrom sameValue template tuples i (template .count) 0 ≡ pairsFrom sameValue template tuples i (template .count) f)
+Inv-values tuples i template k f₀ f = (pairsFrom sameValue template tuples i (template .count) 0 ≡ pairsFrom sameValue template tuples i (template .count) f) × (f ≤ template .count)
 
 abbrev μ-values : tie.MeasureT-values
 μ-values tuples i template k f₀ f = mostFields - f
@@ -37,12 +37,12 @@ returns : tie.Need-returns Inv-kinds μ-kinds Inv-values μ-values
 returns c =
     let counted = c .before in
     let a = counted .before .before .args in
-    count-told (a .t3) (a .tuples .now) (a .i) _ (counted .field-count .ensures) (c .if1 .taken)
+    count-told (a .t3) (a .tuples .now) (a .i) _ (counted .field-count .ensures) (λ e. omega (arith, c .if1 .taken))
 
 -- ---- the kinds
 
 kinds-holds : tie.Need-kinds-holds Inv-kinds μ-kinds Inv-values μ-values
-kinds-holds c = (omega arith, refl)
+kinds-holds c = (refl, omega arith)
 
 kind-requires : tie.Need-kind-requires Inv-kinds μ-kinds Inv-values μ-values
 kind-requires c κs = search needs
@@ -56,7 +56,7 @@ module _ (c : tie.Else2 Inv-kinds μ-kinds Inv-values μ-values) where
   start = c .before .before .before .before .before .before
 
   one-of : c .before .before .kinds .k < start .args .t3 .count
-  one-of = omega (arith, c .before .before .kinds .inv .0, c .if2 .left)
+  one-of = omega (arith, c .before .before .kinds .inv .1, c .if2 .left)
 
 returns-2 : tie.Need-returns-2 Inv-kinds μ-kinds Inv-values μ-values
 returns-2 c =
@@ -67,7 +67,7 @@ returns-2 c =
     let s = start turn in
     let a = s .args in
     kinds-told (a .t3) (a .tuples .now) (a .i) _ (same .before .field-count .ensures) (same .if1 .left) (s .pre .1)
-    (l .kinds .inv .1 ∙ pairs-miss sameKind (a .t3) (a .tuples .now) (a .i) (a .t3 .count) (l .kinds .k) (one-of turn) (kind-other (a .t3) (l .kinds .k) _ _ (read .kind .ensures) (c .if3 .taken)))
+    (l .kinds .inv .0 ∙ pairs-miss sameKind (a .t3) (a .tuples .now) (a .i) (a .t3 .count) (l .kinds .k) (one-of turn) (kind-other (a .t3) (l .kinds .k) _ _ (read .kind .ensures) (c .if3 .taken)))
 
 add-k : tie.Need-add-k Inv-kinds μ-kinds Inv-values μ-values
 add-k c = search needs
@@ -81,15 +81,15 @@ kinds-again c =
     let turn = read .before in
     let l = turn .before .before in
     let a = start turn .args in (
-      omega (arith, one-of turn),
-      l .kinds .inv .1
+      l .kinds .inv .0
           ∙ pairs-more sameKind (a .t3) (a .tuples .now) (a .i) (a .t3 .count) (l .kinds .k) (one-of turn) (kind-same (a .t3) (l .kinds .k) (valueIn (a .tuples .now) (a .i) (l .kinds .k)) _ (read .kind .ensures) (c .if3 .left)),
+      omega (arith, one-of turn),
     )
 
 -- ---- the values
 
 values-holds : tie.Need-values-holds Inv-kinds μ-kinds Inv-values μ-values
-values-holds c = (omega arith, refl)
+values-holds c = (refl, omega arith)
 
 element-copy-out-if5 : tie.Need-element-copy-out-if5 Inv-kinds μ-kinds Inv-values μ-values
 element-copy-out-if5 c = search needs
@@ -112,11 +112,11 @@ module _ (c : tie.Left-kinds Inv-kinds μ-kinds Inv-values μ-values) where
   no-more = ⊎-elim (λ w. omega (arith, w .left, begin .pre .1)) (λ w. omega (arith, w .1 .taken)) (c .kinds-test .came)
 
   all-kinds : pairsFrom sameKind (begin .args .t3) (begin .args .tuples .now) (begin .args .i) (begin .args .t3 .count) 0 ≡ true
-  all-kinds = c .before .kinds .inv .1 ∙ pairs-end sameKind (begin .args .t3) (begin .args .tuples .now) (begin .args .i) (begin .args .t3 .count) (c .before .kinds .k) no-more
+  all-kinds = c .before .kinds .inv .0 ∙ pairs-end sameKind (begin .args .t3) (begin .args .tuples .now) (begin .args .i) (begin .args .t3 .count) (c .before .kinds .k) no-more
 
 module _ (c : tie.Else4 Inv-kinds μ-kinds Inv-values μ-values) where
   one-of-values : c .before .before .values .f < begin (c .before .before .before) .args .t3 .count
-  one-of-values = omega (arith, c .before .before .values .inv .0, c .if4 .left)
+  one-of-values = omega (arith, c .before .before .values .inv .1, c .if4 .left)
 
 -- after the second one nothing fails
 module _ (c : tie.At-values Inv-kinds μ-kinds Inv-values μ-values) where
@@ -127,7 +127,7 @@ module _ (c : tie.At-values Inv-kinds μ-kinds Inv-values μ-values) where
       let s = begin (c .before) in
       let a = s .args in
       none-told (a .t3) (a .tuples .now) (a .i) _ (same .before .field-count .ensures) (same .if1 .left) (s .pre .1) (all-kinds (c .before))
-      (c .values .inv .1 ∙ pairs-end sameValue (a .t3) (a .tuples .now) (a .i) (a .t3 .count) (c .values .f) h)
+      (c .values .inv .0 ∙ pairs-end sameValue (a .t3) (a .tuples .now) (a .i) (a .t3 .count) (c .values .f) h)
 
 returns-3 : tie.Need-returns-3 Inv-kinds μ-kinds Inv-values μ-values
 returns-3 c =
@@ -139,7 +139,7 @@ returns-3 c =
     let s = begin (l .before) in
     let a = s .args in
     values-told (a .t3) (a .tuples .now) (a .i) _ (same .before .field-count .ensures) (same .if1 .left) (s .pre .1) (all-kinds (l .before))
-    (l .values .inv .1
+    (l .values .inv .0
     ∙ pairs-miss sameValue (a .t3) (a .tuples .now) (a .i) (a .t3 .count) (l .values .f) (one-of-values turn)
     (value-other (a .t3) (l .values .f) (valueIn (a .tuples .now) (a .i) (l .values .f)) _ (read .bits .ensures) (given .if5 .taken) (c .if6 .taken)))
 
@@ -155,10 +155,10 @@ values-again c =
     let l = turn .before .before in
     let a = begin (l .before) .args in
     let v = valueIn (a .tuples .now) (a .i) (l .values .f) in (
-      omega (arith, one-of-values turn),
-      l .values .inv .1
+      l .values .inv .0
           ∙ pairs-more sameValue (a .t3) (a .tuples .now) (a .i) (a .t3 .count) (l .values .f) (one-of-values turn)
           (⊎-elim (λ w. value-same (a .t3) (l .values .f) v _ (w .1 .ensures) (w .0 .taken) (w .3 .left)) (λ w. value-any (a .t3) (l .values .f) v (w .left)) (c .if5 .came)),
+      omega (arith, one-of-values turn),
     )
 
 returns-4 : tie.Need-returns-4 Inv-kinds μ-kinds Inv-values μ-values

@@ -1,7 +1,7 @@
 -- `moves::selected` meets its contract. Assumes nothing.
 use mathlib.Core.Path.{_∙_}
 use Rattle.tuples.specs.Section.{tupleAt}
-use Rattle.moves.specs.MoveLaws.{taken-space, taken-fits}
+use Rattle.moves.specs.MoveLaws.{selected-space, selected-match}
 use borrow.Author.Needs.{needs}
 use Rattle.moves.proofs.selected.Statement.{statement}
 use Rattle.moves.proofs.selected.Tie as tie
@@ -14,16 +14,16 @@ returns c =
     let read = c .before in
     let none = read .before in
     let a = none .before .before .before .args in
-    taken-space (a .template) (tupleAt (a .tuples .now) (a .i)) _ (read .space .ensures) (none .if1 .taken)
+    selected-space (a .template) (tupleAt (a .tuples .now) (a .i)) _ (read .space .ensures) (none .if1 .taken)
 
-fits-requires : tie.Need-fits-requires
-fits-requires c κs = search needs
+is-match-requires : tie.Need-is-match-requires
+is-match-requires c κs = search needs
 
 returns-2 : tie.Need-returns-2
 returns-2 c =
     let some = c .before in
     let a = some .before .before .before .args in
-    c .fits2 .ensures ∙ taken-fits (a .template) (tupleAt (a .tuples .now) (a .i)) (some .if1 .left)
+    c .is-match .ensures ∙ selected-match (a .template) (tupleAt (a .tuples .now) (a .i)) (some .if1 .left)
 
 pub selected-spec : {M : Type 1} → statement M
-selected-spec = tie.close (tie.spec space-requires returns fits-requires returns-2)
+selected-spec = tie.close (tie.spec space-requires returns is-match-requires returns-2)

@@ -11,7 +11,7 @@ use Rattle.basis.specs.Sizes.{mostFields}
 use Rattle.matching.specs.declared.Found.the-variants.{At}
 use Rattle.tuples.specs.Section.{tupleShape, tuplesOf}
 use Rattle.sections.specs.Shapes.{holds-length}
-use Rattle.model.specs.Matching.{fits}
+use Rattle.model.specs.Matching.{isMatch}
 use Rattle.matching.specs.Meaning.{templateIs, foundIs}
 use Rattle.bindings.specs.Fields.{fieldsIn, length-mapped, fields-length}
 use Rattle.bindings.specs.Variables.{bindingsOf}
@@ -30,7 +30,7 @@ module _ (c : tie.After-find) where
   bytes = now (start .args .tuples)
 
   -- a tuple that was found
-  found : (i : ℕ) → c .find .result ≡ At i → foundIs bytes (At i) ≡ first (fits (templateIs (c .before .template-of .result))) (tuplesOf bytes (start .args .n))
+  found : (i : ℕ) → c .find .result ≡ At i → foundIs bytes (At i) ≡ first (isMatch (templateIs (c .before .template-of .result))) (tuplesOf bytes (start .args .n))
   found i e = ap (foundIs bytes) (sym e) ∙ c .find .ensures
 
   below : (i : ℕ) → c .find .result ≡ At i → i < start .args .n

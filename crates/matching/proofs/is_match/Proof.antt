@@ -1,15 +1,15 @@
--- `matching::fits` meets its contract. Assumes nothing.
+-- `matching::is_match` meets its contract. Assumes nothing.
 use mathlib.Core.Path.{_≡_, sym, ap, _∙_}
 use lib.Dec.{eqb}
-use Rattle.model.specs.Matching.{mismatchNumber, fits}
+use Rattle.model.specs.Matching.{mismatchNumber, isMatch}
 use Rattle.tuples.specs.Section.{tupleAt}
 use Rattle.matching.specs.declared.Mismatch.{Mismatch}
 use Rattle.matching.specs.declared.Mismatch.the-variants.{None, Count, Kinds, Values}
 use Rattle.matching.specs.Meaning.{templateIs, mismatchIs}
-use Rattle.matching.specs.SearchLaws.{fits-space, fits-told}
+use Rattle.matching.specs.SearchLaws.{match-space, match-told}
 use borrow.Author.Needs.{needs}
-use Rattle.matching.proofs.fits.Statement.{statement}
-use Rattle.matching.proofs.fits.Tie as tie
+use Rattle.matching.proofs.is_match.Statement.{statement}
+use Rattle.matching.proofs.is_match.Tie as tie
 
 space-requires : tie.Need-space-requires
 space-requires c κs = search needs
@@ -18,7 +18,7 @@ returns : tie.Need-returns
 returns c =
     let read = c .before .before in
     let a = read .before .before .args in
-    fits-space (a .template) (tupleAt (a .tuples .now) (a .i)) _ (read .space .ensures) (c .if1 .taken)
+    match-space (a .template) (tupleAt (a .tuples .now) (a .i)) _ (read .space .ensures) (c .if1 .taken)
 
 first-mismatch-requires : tie.Need-first-mismatch-requires
 first-mismatch-requires c κs = search needs
@@ -40,10 +40,10 @@ module _ (c : tie.After-first-mismatch) where
   abbrev start : tie.Start
   start = c .before .before .before .before .before
 
-  told : (m : Mismatch) → c .first-mismatch .result ≡ m → eqb (mismatchNumber (mismatchIs m)) 0 ≡ fits (templateIs (start .args .template)) (tupleAt (start .args .tuples .now) (start .args .i))
+  told : (m : Mismatch) → c .first-mismatch .result ≡ m → eqb (mismatchNumber (mismatchIs m)) 0 ≡ isMatch (templateIs (start .args .template)) (tupleAt (start .args .tuples .now) (start .args .i))
   told m e =
       ap (λ (r : Mismatch). eqb (mismatchNumber (mismatchIs r)) 0) (sym e)
-      ∙ fits-told (start .args .template) (tupleAt (start .args .tuples .now) (start .args .i)) _ (c .before .before .before .space .ensures) (c .before .if1 .left) (mismatchIs (c .first-mismatch .result)) (c .first-mismatch .ensures)
+      ∙ match-told (start .args .template) (tupleAt (start .args .tuples .now) (start .args .i)) _ (c .before .before .before .space .ensures) (c .before .if1 .left) (mismatchIs (c .first-mismatch .result)) (c .first-mismatch .ensures)
 
 returns-2 : tie.Need-returns-2
 unfolding mismatchNumber mismatchIs
@@ -61,8 +61,8 @@ returns-5 : tie.Need-returns-5
 unfolding mismatchNumber mismatchIs
 returns-5 c = told (c .before .before) Values (c .enum-told4 .given .1)
 
-pub fits-spec : {M : Type 1} → statement M
-fits-spec =
+pub is-match-spec : {M : Type 1} → statement M
+is-match-spec =
     tie.close
     (tie.spec
     space-requires
