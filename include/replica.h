@@ -50,12 +50,13 @@ extern "C" {
 
 /*
  * The number of the bytes and of their meaning. Whatever changes a byte of a record, a reply or a state, or what one
- * means, raises it; 1 is document 01's, 2 has space numbers of two bytes. replica_layout returns the library's own: at
- * a fit-up compare it with the header's, and between cabinets and desks. A desk must not write for cabinets of another
- * number, nor may cabinets whose numbers differ read one stream or copy a state from each other: a record of layout 1
- * can pass for another one of layout 2.
+ * means, raises it; 1 is document 01's, 2 has space numbers of two bytes, 3 owes failure tuples that find no room.
+ * replica_layout returns the library's own: at a fit-up compare it with the header's, and between cabinets and desks.
+ * A desk must not write for cabinets of another number, nor may cabinets whose numbers differ read one stream or copy a
+ * state from each other: a record of layout 1 can pass for another one of layout 2, and a crash that layout 2 refuses
+ * is done by layout 3.
  */
-#define REPLICA_LAYOUT 2
+#define REPLICA_LAYOUT 3
 uint64_t replica_layout(void);
 
 #define REPLICA_STATE_BYTES 25312 /* a state buffer has exactly this length */
@@ -89,7 +90,10 @@ uint64_t replica_fresh(uint8_t *state, size_t state_length);
  *
  *   mark  body
  *   RV    host (1, 0 to 15): the host is up
- *   CR    host (1): it has crashed
+ *   CR    host (1): it has crashed; its waiting statements are dropped, and a tuple (name 1, whole monitor number, whole
+ *         host) in space 0 tells each monitor. One that finds 512 tuples is owed: it is laid down after the record, or
+ *         the woken statement, that makes room, before the next waiting statement is looked for; the lowest monitor
+ *         first, then the lowest host. A pair is owed once, RV cancels nothing, and no reply tells of it
  *   MO    host (1), process (2): a new monitor number
  *   MS    host (1), process (2), kind (1, or absent: shared): opens the next space number, 1 to 65,535
  *   DS    host (1), process (2), space (2): closes the space, with its tuples
@@ -148,7 +152,7 @@ uint64_t replica_take(uint8_t *state, size_t state_length, const uint8_t *record
 #define REPLICA_OUTCOME_PROCESS_WAITS 9   /* MO MS DS AG: the process has a statement waiting */
 #define REPLICA_OUTCOME_SPACE_NOT_OPEN 10 /* DS AG: a space that is named is not open */
 #define REPLICA_OUTCOME_SPACE_DENIED 11   /* DS AG: a space that is named is private to another process */
-#define REPLICA_OUTCOME_TUPLES_FULL 12    /* CR AG: there would be more than 512 tuples */
+#define REPLICA_OUTCOME_TUPLES_FULL 12    /* AG: there would be more than 512 tuples */
 #define REPLICA_OUTCOME_WAITING_FULL 13   /* AG: the statement would wait, and 32 wait */
 #define REPLICA_OUTCOME_USED_UP 14        /* MO MS: 8 monitors, 32 open spaces, or space number 65,535, are used up */
 #define REPLICA_OUTCOME_SPACE_IN_USE 15   /* DS: it is space 0, or a waiting statement names it */

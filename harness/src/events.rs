@@ -6,15 +6,18 @@ use crate::hex::record;
 use crate::layout::{REPLY_BYTES, STATE_BYTES};
 use reference::call::split;
 use reference::generate::rng::Rng;
-use reference::generate::Stream;
+use reference::generate::{Profile, Stream, PROFILES};
 use reference::layout::{encode, reply_bytes};
 use reference::run::Run;
+use std::cmp::Ordering;
 use std::collections::BTreeMap;
 
 /// What every set of lists must have.
-pub const KINDS: [&str; 16] = [
+pub const KINDS: [&str; 19] = [
     "taken",
     "taken and wakes",
+    "taken and owes more",
+    "taken and owes less",
     "taken again after a restart",
     "refused 2",
     "refused 3",
@@ -29,18 +32,20 @@ pub const KINDS: [&str; 16] = [
     "restart empty",
     "restart from the latest copy",
     "restart from an earlier copy",
+    "restart from a copy that owes",
 ];
 
 /// How often each kind of event occurred.
 pub type Counts = BTreeMap<&'static str, usize>;
 
 /// The records 1, 2, .. and, for each count of them, the one-by-one run's state, the replies to the last
-/// record, and whether that woke a statement.
+/// record, whether that woke a statement, and how many failure tuples are owed then.
 struct History {
     records: Vec<Vec<u8>>,
     states: Vec<Vec<u8>>,
     replies: Vec<Vec<u8>>,
     wakes: Vec<bool>,
+    owed: Vec<usize>,
 }
 
 impl History {
@@ -48,7 +53,7 @@ impl History {
         let mut stream = Stream::from_fresh(seed, number);
         let mut run = Run::fresh();
         let (states, replies) = (vec![encode(&run)], vec![vec![]]);
-        let mut history = History { records: vec![], states, replies, wakes: vec![false] };
+        let mut history = History { records: vec![], states, replies, wakes: vec![false], owed: vec![0] };
         for _ in 0..length {
             let record = stream.feed();
             let (mark, position, body) = split(&record).expect("a record of the feed passes check 3");
@@ -56,6 +61,7 @@ impl History {
             history.wakes.push(replies.iter().any(|reply| reply.position != position));
             history.replies.push(replies.iter().flat_map(reply_bytes).collect());
             history.states.push(encode(&run));
+            history.owed.push(run.owed.len());
             history.records.push(record);
         }
         history
@@ -80,6 +86,8 @@ struct Cabinet {
 struct List<'a> {
     rng: Rng,
     history: History,
+    /// At most so many records come in order at once.
+    at_once: usize,
     cabinets: [Cabinet; 2],
     caller: &'a mut Caller,
     counts: &'a mut Counts,
@@ -88,9 +96,12 @@ struct List<'a> {
 /// Runs one event list; the error says how to run it again.
 pub fn run(seed: u64, number: u64, caller: &mut Caller, counts: &mut Counts) -> Result<usize, String> {
     let mut rng = Rng::new(seed.wrapping_mul(7_000_003).wrapping_add(number) ^ 0x5A5A);
-    let history = History::new(seed, number, 10 + rng.below(70));
+    let owes = PROFILES[number as usize % PROFILES.len()] == Profile::Debts;
+    // its table is full after some 50 records
+    let (least, more, at_once) = if owes { (80, 80, 40) } else { (10, 70, 8) };
+    let history = History::new(seed, number, least + rng.below(more));
     let cabinets = [0, 1].map(|_| Cabinet { now: None, buffer: vec![], held: vec![], furthest: 0 });
-    let mut list = List { rng, history, cabinets, caller, counts };
+    let mut list = List { rng, history, at_once, cabinets, caller, counts };
     let events = 40 + list.rng.below(160);
     let again = |at, fault| format!("compare --list {seed} {number}: event {at}: {fault}");
     list.begin().map_err(|fault| again(0, fault))?;
@@ -141,7 +152,7 @@ impl List<'_> {
 
     /// Some records in order.
     fn in_order(&mut self, at: usize, position: usize) -> Result<(), String> {
-        let end = self.history.records.len().min(position + 1 + self.rng.below(8));
+        let end = self.history.records.len().min(position + 1 + self.rng.below(self.at_once));
         for next in position..end {
             let record = self.history.records[next].clone();
             self.take(at, &record, "taken")?;
@@ -242,6 +253,13 @@ impl List<'_> {
         if kind == "taken" && self.history.wakes[after] {
             self.count("taken and wakes");
         }
+        if kind == "taken" {
+            match self.history.owed[after].cmp(&self.history.owed[after - 1]) {
+                Ordering::Greater => self.count("taken and owes more"),
+                Ordering::Less => self.count("taken and owes less"),
+                Ordering::Equal => {}
+            }
+        }
         if kind == "taken" && after <= self.cabinets[at].furthest {
             self.count("taken again after a restart");
         }
@@ -312,8 +330,12 @@ impl List<'_> {
         let cabinet = &mut self.cabinets[at];
         cabinet.buffer.copy_from_slice(&copy.state);
         cabinet.now = Some(copy.position);
+        let owes = self.history.owed[copy.position] > 0;
         cabinet.held.push(copy);
         self.count(kind);
+        if owes {
+            self.count("restart from a copy that owes");
+        }
         Ok(())
     }
 

@@ -1,5 +1,5 @@
-//! Where the bytes of a state stand, written by hand from document 01 and request L1 of document 02. The second
-//! implementation has names of its own.
+//! Where the bytes of a state stand, written by hand from document 01 and requests L1 and L3 of document 02. The
+//! second implementation has names of its own.
 
 use std::ops::Range;
 
@@ -19,8 +19,10 @@ pub const NEXT: Range<usize> = 9..13;
 pub const SPACE_COUNT_AT: usize = 13;
 pub const TUPLE_COUNT: Range<usize> = 14..16;
 pub const WAITING_COUNT_AT: usize = 16;
+/// Masks of hosts, two bytes for each monitor number from 1 to 8.
+pub const OWED: Range<usize> = 17..33;
 /// From here on the header is zero.
-pub const HEADER_USED: usize = 17;
+pub const HEADER_USED: usize = 33;
 
 // ---- The sections ----
 
@@ -40,6 +42,8 @@ pub const VALUES_AT: usize = 3;
 /// Kind, then four bytes.
 pub const VALUE_BYTES: usize = 5;
 
+const _: () = assert!(OWED.start == WAITING_COUNT_AT + 1 && OWED.end == OWED.start + 8 * 2);
+const _: () = assert!(OWED.end == HEADER_USED && HEADER_USED < SPACES_AT);
 const _: () = assert!(TUPLES_AT == SPACES_AT + 32 * SPACE_BYTES);
 const _: () = assert!(TUPLE_BYTES == VALUES_AT + 6 * VALUE_BYTES);
 const _: () = assert!(WAITING_AT == TUPLES_AT + 512 * TUPLE_BYTES);
@@ -65,6 +69,17 @@ pub fn waiting(at: usize) -> Range<usize> {
 /// How many tuples a state says that it has.
 pub fn tuple_count(state: &[u8]) -> usize {
     state[TUPLE_COUNT].iter().fold(0, |count, byte| count << 8 | usize::from(*byte))
+}
+
+/// The masks of the hosts that are owed to the monitor numbers 1 to 8.
+pub fn owed(state: &[u8]) -> [u16; 8] {
+    let byte = |at: usize| u16::from(state[OWED.start + at]);
+    [0, 1, 2, 3, 4, 5, 6, 7].map(|at| byte(2 * at) << 8 | byte(2 * at + 1))
+}
+
+/// Writes these masks.
+pub fn set_owed(state: &mut [u8], masks: [u16; 8]) {
+    state[OWED].copy_from_slice(&masks.map(u16::to_be_bytes).concat());
 }
 
 /// Writes the next space number.

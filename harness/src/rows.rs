@@ -5,7 +5,7 @@ use crate::states::{self, any, branch, given, naming, operation, put, scattered,
 use reference::generate::join;
 use reference::generate::statements::wide;
 use reference::run::{Run, Space, Tuple, Waiting};
-use reference::statement::{self, Branch, Field, Operation, IN, MOVE, OUT, TRUE};
+use reference::statement::{self, Branch, Field, Operation, IN, MOVE, OUT, RD, TRUE};
 use reference::value::{metres, name, whole};
 
 /// A record to be taken by each of some states in turn.
@@ -16,6 +16,8 @@ pub struct Row {
     pub reply_length: usize,
     /// A check of its states is so short that many must be timed at once.
     pub is_brief: bool,
+    /// The first layout whose libraries answer so.
+    pub since: u64,
 }
 
 /// A body as the next record of these runs.
@@ -23,7 +25,7 @@ fn marked(name: &'static str, runs: &[Run], mark: [u8; 2], body: &[u8]) -> Row {
     let record = join(mark, runs[0].last + 1, body);
     let is_brief = runs[0].tuples.len() < 2 && runs[0].waiting.is_empty();
     let states = runs.iter().map(states::bytes).collect();
-    Row { name, states, record, reply_length: REPLY_BYTES, is_brief }
+    Row { name, states, record, reply_length: REPLY_BYTES, is_brief, since: 2 }
 }
 
 /// The statement of host 2, process 7, as the next record of these runs.
@@ -156,6 +158,27 @@ fn many_spaces() -> Vec<Row> {
     ]
 }
 
+/// Crashes without room and debts, which libraries before layout 3 refuse.
+fn debts() -> Vec<Row> {
+    let mut crashing = states::owing(0, &[]);
+    crashing.up[3] = true;
+    let last = states::owing(0, &[(8, 15)]);
+    let mut mover = last.clone();
+    let moves = vec![operation(MOVE, &[0, 1], vec![])];
+    let told = branch(operation(RD, &[0], given(&states::notice(8, 15))), moves);
+    mover.waiting.push(Waiting { position: 1, statement: statement(2, 8, vec![told]) });
+    let closes = |name, run: Run| marked(name, &[run], *b"DS", &[2, 0, 7, 0, 1]);
+    let rows = vec![
+        marked("512 tuples, 8 monitors, crash", &[crashing], *b"CR", &[3]),
+        row("512 tuples, a pair owed, in of the newest", &[last], newest(511, vec![])),
+        row("a pair owed, in that wakes a move of 512", &[mover], newest(511, vec![])),
+        closes("512 tuples, 128 pairs owed, DS of all", states::owing(1, &states::pairs())),
+        closes("512 tuples, 128 pairs owed, DS that wakes 32", states::told()),
+        row("128 pairs owed, 32 x 4 guards, youngest first", &[states::owed_chain()], states::take_four()),
+    ];
+    rows.into_iter().map(|row| Row { since: 3, ..row }).collect()
+}
+
 /// The check of the states of these rows takes at most so many units of the benchmark, in the least sample: 512 tuples
 /// of one shape in one space, and spread over 32.
 pub const LIMITS: [(&str, f64); 2] =
@@ -163,7 +186,7 @@ pub const LIMITS: [(&str, f64); 2] =
 
 /// Records that are taken.
 pub fn taken() -> Vec<Row> {
-    let rows = [near_empty(), sums(), many_tuples(), many_guards(), moves_and_wakes(), many_spaces()];
+    let rows = [near_empty(), sums(), many_tuples(), many_guards(), moves_and_wakes(), many_spaces(), debts()];
     rows.into_iter().flatten().collect()
 }
 

@@ -116,9 +116,10 @@ fn crossed() -> Vec<u16> {
 }
 
 /// All tables are full, all numbers are used up, and one more record can be taken. A process waits for each space,
-/// and has its number: every third space is private to it.
+/// and has its number: every third space is private to it. Of each two pairs one is owed.
 pub fn full() -> Run {
     let mut run = Run { last: u32::MAX - 1, monitors: 8, next: 65_536, up: [true; 16], ..Run::fresh() };
+    run.owed = pairs().into_iter().filter(|(monitor, host)| (monitor + host) % 2 == 0).collect();
     let spaces = crossed();
     for (at, number) in spaces.iter().copied().enumerate().skip(1) {
         let private = at % 3 == 1;
@@ -283,6 +284,65 @@ pub fn many_names() -> Run {
     let mut run = Run { last: 1000, ..spread(0) };
     for number in 0..31 {
         wait(&mut run, 1 + number as u32, statement(2, 100 + number as u16, naming(4, 5 * number)));
+    }
+    run
+}
+
+// ---- States that owe ----
+
+/// The failure tuple of a monitor number and a host.
+pub fn notice(monitor: u8, host: u8) -> [Value; 3] {
+    [name(1), whole(monitor.into()), whole(host.into())]
+}
+
+/// All pairs of monitor number and host, in the order in which they are laid down.
+pub fn pairs() -> Vec<(u8, u8)> {
+    (1..=8).flat_map(|monitor| (0..16).map(move |host| (monitor, host))).collect()
+}
+
+/// 512 tuples of one shape in a space, 0 or 1; eight monitor numbers are given, and these pairs are owed.
+pub fn owing(space: u16, pairs: &[(u8, u8)]) -> Run {
+    let mut run = Run { last: 1000, monitors: 8, next: 2, ..near_empty() };
+    run.spaces.push(Space { number: 1, private: false, owner: 0 });
+    run.tuples = (0..512).map(|number| shaped(space, number)).collect();
+    run.owed = pairs.iter().copied().collect();
+    run
+}
+
+/// 512 tuples in space 1, all pairs owed, and 32 statements that each take a notice and tell its monitor and host.
+pub fn told() -> Run {
+    let mut run = owing(1, &pairs());
+    let bind = |variable| Field::Bind { kind: 0, variable };
+    for number in 0..32 {
+        let takes = operation(IN, &[0], vec![Field::Given(name(1)), bind(0), bind(1)]);
+        wait(&mut run, 1 + number, statement(2, 100 + number as u16, vec![branch(takes, vec![])]));
+    }
+    run
+}
+
+/// in of any link.
+fn take_link() -> Operation {
+    operation(IN, &[0], [1, 0, 1, 0, 0, 0].map(any).to_vec())
+}
+
+/// Takes four links, so that four pairs are laid down.
+pub fn take_four() -> Vec<Branch> {
+    vec![branch(take_link(), vec![take_link(); 3])]
+}
+
+/// 512 links, all pairs owed, and 32 statements of 4 guards that no tuple meets. The last guard of each takes a notice,
+/// the youngest the first that is laid down, the next one the fifth, and so on; then it takes three links. So four
+/// pairs are laid down after each, and they wake from the youngest to the oldest, each after all older ones were tried.
+pub fn owed_chain() -> Run {
+    let mut run = Run { last: 1000, monitors: 8, owed: pairs().into_iter().collect(), ..near_empty() };
+    run.tuples = (0..512).map(|number| tuple(0, &link(1000 + number))).collect();
+    for number in 0..32 {
+        let guard = |values: &[Value]| operation(IN, &[0], given(values));
+        let mut branches: Vec<Branch> =
+            (0..3).map(|at| branch(guard(&link(100_000 + 4 * number as i32 + at)), vec![])).collect();
+        let (monitor, host) = pairs()[4 * (31 - number)];
+        branches.push(branch(guard(&notice(monitor, host)), vec![take_link(); 3]));
+        wait(&mut run, 1 + number as u32, statement(2, 100 + number as u16, branches));
     }
     run
 }

@@ -3,7 +3,7 @@
 use crate::caller::{Caller, Expected};
 use crate::hex::hex;
 use reference::generate::coverage::Coverage;
-use reference::generate::{Step, Stream};
+use reference::generate::{Step, Stream, PROFILES};
 
 /// Records of a stream, by its number: short ones reach many starts, long ones go deep.
 const LENGTHS: [usize; 4] = [15, 15, 40, 150];
@@ -19,7 +19,7 @@ fn described(seed: u64, number: u64, at: usize, step: &Step, fault: &str) -> Str
 pub fn run(seed: u64, number: u64, caller: &mut Caller, coverage: &mut Coverage) -> Result<(), String> {
     let mut stream = Stream::new(seed, number);
     // the profile goes by the number, so that each profile meets each length
-    let length = LENGTHS[(number / 7 % LENGTHS.len() as u64) as usize];
+    let length = LENGTHS[number as usize / PROFILES.len() % LENGTHS.len()];
     for at in 0..length {
         let step = stream.step();
         let expected = Expected { returned: step.returned, state: &step.after, reply: &step.reply };

@@ -2,11 +2,13 @@
 
 use harness::caller::Caller;
 use harness::events::{self, Counts};
-use harness::layout::{LAST, NEXT, REPLY_BYTES, STATE_BYTES};
+use harness::layout::{owed, set_owed, LAST, NEXT, REPLY_BYTES, STATE_BYTES};
 use harness::library::{Calls, REFERENCE};
 use harness::streams;
 use reference::call::{split, take};
 use reference::generate::coverage::Coverage;
+use reference::layout::{encode, read_state, reply_bytes};
+use reference::run::{failure, Mark, Reply, Run};
 
 type Take = fn(&mut [u8], &[u8], &mut [u8]) -> u64;
 
@@ -172,4 +174,165 @@ fn two_before_one() {
     });
     assert!(by_streams.is_err_and(|fault| fault.contains("returned 2 and not 1")));
     assert_eq!(by_lists, Ok(()));
+}
+
+// ---- Debts, on the second implementation's run gone wrong ----
+
+/// A call whose record, where it is taken, does this instead.
+fn going(
+    state: &mut [u8],
+    record: &[u8],
+    reply: &mut [u8],
+    step: impl Fn(&mut Run, Mark, &[u8]) -> Vec<Reply>,
+) -> u64 {
+    let returned = take(&mut state.to_vec(), record, &mut reply.to_vec());
+    let (Some(mut run), Some((mark, position, body))) = (read_state(state), split(record)) else {
+        return returned;
+    };
+    if !is_taken(returned) {
+        return returned;
+    }
+    run.last = position;
+    let replies: Vec<u8> = step(&mut run, mark, body).iter().flat_map(reply_bytes).collect();
+    state.copy_from_slice(&encode(&run));
+    reply[..replies.len()].copy_from_slice(&replies);
+    replies.len() as u64
+}
+
+/// The own effect, then the queue, with debts laid down by these: before the first search, and after each woken one.
+fn laying(run: &mut Run, mark: Mark, body: &[u8], first: fn(&mut Run), again: fn(&mut Run)) -> Vec<Reply> {
+    let mut replies = Vec::from_iter(run.own_reply(run.last, mark, body));
+    first(run);
+    while let Some(reply) = run.wake_oldest() {
+        replies.push(reply);
+        again(run);
+    }
+    replies
+}
+
+/// Lays down what fits, by this order of the pairs.
+fn lay_by(run: &mut Run, order: fn(&(u8, u8)) -> (u8, u8)) {
+    while run.tuples.len() < 512 {
+        let Some(pair) = run.owed.iter().copied().min_by_key(order) else {
+            return;
+        };
+        run.owed.remove(&pair);
+        run.tuples.push(failure(pair.0, pair.1));
+    }
+}
+
+/// The stand-in that goes right, so that what is noticed below is the fault alone.
+#[test]
+fn debts_laid_as_they_should_be() {
+    let right: Take = |state, record, reply| {
+        let again = |run: &mut Run| lay_by(run, |pair| *pair);
+        going(state, record, reply, |run, mark, body| laying(run, mark, body, Run::lay, again))
+    };
+    assert_eq!(verdicts(right), [Ok(()), Ok(())]);
+}
+
+#[test]
+fn debts_laid_after_the_queue() {
+    noticed_by_streams(
+        |state, record, reply| {
+            going(state, record, reply, |run, mark, body| {
+                let replies = laying(run, mark, body, |_| (), |_| ());
+                run.lay();
+                replies
+            })
+        },
+        " and not ",
+    );
+}
+
+#[test]
+fn debts_not_laid_after_a_woken_statement() {
+    noticed_by_streams(
+        |state, record, reply| {
+            going(state, record, reply, |run, mark, body| laying(run, mark, body, Run::lay, |_| ()))
+        },
+        " and not ",
+    );
+}
+
+#[test]
+fn debts_laid_for_those_who_wait_alone() {
+    noticed_by_streams(
+        |state, record, reply| {
+            going(state, record, reply, |run, mark, body| {
+                let lay = |run: &mut Run| if !run.waiting.is_empty() { run.lay() };
+                laying(run, mark, body, lay, lay)
+            })
+        },
+        "the state byte 14 is 01 and not 02",
+    );
+}
+
+#[test]
+fn debts_laid_by_the_lowest_host() {
+    noticed_by_streams(
+        |state, record, reply| {
+            let lay = |run: &mut Run| lay_by(run, |(monitor, host)| (*host, *monitor));
+            going(state, record, reply, |run, mark, body| laying(run, mark, body, lay, lay))
+        },
+        " and not ",
+    );
+}
+
+#[test]
+fn debts_laid_by_the_highest_host() {
+    noticed_by_streams(
+        |state, record, reply| {
+            let lay = |run: &mut Run| lay_by(run, |(monitor, host)| (*monitor, 15 - host));
+            going(state, record, reply, |run, mark, body| laying(run, mark, body, lay, lay))
+        },
+        " and not ",
+    );
+}
+
+#[test]
+fn debts_that_a_recovery_cancels() {
+    noticed(
+        |state, record, reply| {
+            let returned = take(state, record, reply);
+            if record.starts_with(b"RV") && is_taken(returned) && reply[9] == 0 {
+                let host = record[8];
+                set_owed(state, owed(state).map(|mask| mask & !(1 << host)));
+            }
+            returned
+        },
+        "the state byte",
+    );
+}
+
+#[test]
+fn a_crash_refused_for_want_of_room() {
+    noticed(
+        |state, record, reply| {
+            let before = state.to_vec();
+            let returned = take(state, record, reply);
+            if record.starts_with(b"CR") && is_taken(returned) && owed(state) != owed(&before) {
+                state[LAST.end..].copy_from_slice(&before[LAST.end..]);
+                reply[9] = 12;
+                return 12;
+            }
+            returned
+        },
+        "returned 12 and not ",
+    );
+}
+
+#[test]
+fn masks_that_are_not_looked_at() {
+    noticed_by_streams(
+        |state, record, reply| {
+            if state.len() == STATE_BYTES && take(&mut state.to_vec(), record, &mut reply.to_vec()) == 1 {
+                let mut other = state.to_vec();
+                set_owed(&mut other, [0; 8]);
+                return take(&mut other, record, reply);
+            }
+            take(state, record, reply)
+        },
+        " and not 1",
+    );
 }

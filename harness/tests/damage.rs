@@ -3,8 +3,8 @@
 use harness::caller::{Caller, Expected};
 use harness::hex::{hex, record, unhex};
 use harness::layout::{
-    self, HEADER_USED, MARK, NEXT, SPACES_AT, SPACE_BYTES, SPACE_COUNT_AT, STATE_BYTES, TUPLES_AT,
-    TUPLE_BYTES, TUPLE_COUNT, WAITING_AT, WAITING_BYTES,
+    self, HEADER_USED, MARK, MONITORS_AT, NEXT, OWED, SPACES_AT, SPACE_BYTES, SPACE_COUNT_AT, STATE_BYTES,
+    TUPLES_AT, TUPLE_BYTES, TUPLE_COUNT, WAITING_AT, WAITING_BYTES,
 };
 use harness::library::LIBRARY;
 use harness::replica::Replica;
@@ -100,12 +100,12 @@ fn the_fresh_state_at_every_byte() {
 
 // ---- Bytes of numbers, with what the paper says of them ----
 
-/// Whether the library takes the bytes for a state; 3 is tried after that.
+/// Whether the library, and the second implementation too, takes the bytes for a state; 3 is tried after that.
 fn is_state(bytes: &[u8]) -> bool {
     let mut caller = Caller::new(LIBRARY);
-    let returned = caller.call(bytes, b"XX", &[4; 3_564]);
-    assert!(caller.left().0 == bytes && [1, 3].contains(&returned), "returned {returned}");
-    returned == 3
+    let returned = caller.agree(bytes, b"XX", &[4; 3_564]);
+    assert!(caller.left().0 == bytes && [Ok(1), Ok(3)].contains(&returned), "returned {returned:?}");
+    returned == Ok(3)
 }
 
 /// Every value of the byte at this place: a state exactly where `expected` says so.
@@ -211,6 +211,74 @@ fn each_byte_of_the_number_of_a_space_with_tuples() {
 fn each_byte_of_the_counts_and_the_rest_of_the_header() {
     let bytes = three_spaces(65_536, &["0000 01 00 00000000", "0100 01 00 00000000"]);
     for at in SPACE_COUNT_AT..SPACES_AT {
+        let old = bytes[at];
+        each_value(&bytes, at, |new| new == old);
+    }
+}
+
+/// Host 2 is up, so many monitor numbers are given and so many tuples (whole 0) are there; these masks.
+fn owing(monitors: u8, tuples: u16, masks: [u16; 8]) -> Vec<u8> {
+    let mut bytes = Replica::up().state;
+    bytes[MONITORS_AT] = monitors;
+    bytes[TUPLE_COUNT].copy_from_slice(&tuples.to_be_bytes());
+    for at in 0..tuples.into() {
+        bytes[layout::tuple(at)][..8].copy_from_slice(&unhex("0000 01 00 00000000"));
+    }
+    layout::set_owed(&mut bytes, masks);
+    bytes
+}
+
+/// Nothing is owed to a number that was not given, and nothing beside fewer than 512 tuples.
+fn may_owe(monitors: u8, tuples: u16, masks: [u16; 8]) -> bool {
+    let is_owed = |mask: &u16| *mask != 0;
+    !masks[monitors.into()..].iter().any(is_owed) && (tuples == 512 || !masks.iter().any(is_owed))
+}
+
+/// Each bit of each mask changed, beside each count of monitors; where it may be so the record is taken, and what is
+/// owed is laid down. Else the call is turned back and changes no byte.
+#[test]
+fn each_bit_of_the_masks() {
+    let takes = record("AG", 2, "02 0005 01 02 0000 01 05 00 00");
+    let (mut caller, mut returns) = (Caller::new(LIBRARY), Returns::new());
+    for (monitors, tuples) in (0..=8).flat_map(|monitors| [0, 1, 511, 512].map(|tuples| (monitors, tuples))) {
+        let mut all = [0xFFFF; 8];
+        all[monitors.into()..].fill(0);
+        let both = [[0; 8], all];
+        let good = if monitors > 0 && tuples == 512 { &both[..] } else { &both[..1] };
+        for good in good {
+            for (place, bit) in (0..8).flat_map(|place| (0..16).map(move |bit| (place, bit))) {
+                let mut masks = *good;
+                masks[place] ^= 1 << bit;
+                let bytes = owing(monitors, tuples, masks);
+                let expected = if may_owe(monitors, tuples, masks) { 12 } else { 1 };
+                let returned = caller.agree(&bytes, &takes, &[4; 3_564]);
+                assert_eq!(returned, Ok(expected), "{monitors} monitors, {tuples} tuples, {masks:04X?}");
+                assert_eq!(caller.left().0 == bytes, expected == 1);
+                *returns.entry(expected).or_insert(0) += 1;
+            }
+        }
+    }
+    assert_eq!(returns, Returns::from([(1, 4_480), (12, 1_152)]));
+}
+
+/// Every value of each byte of the masks, where three of eight numbers are given.
+#[test]
+fn each_byte_of_the_masks() {
+    for at in OWED {
+        let is_given = at < OWED.start + 6;
+        each_value(&owing(3, 512, [0; 8]), at, |new| new == 0 || is_given);
+        each_value(&owing(3, 512, [0xFFFF, 1, 0x8000, 0, 0, 0, 0, 0]), at, |new| new == 0 || is_given);
+        each_value(&owing(3, 511, [0; 8]), at, |new| new == 0);
+        each_value(&owing(8, 512, [0x0180; 8]), at, |_| true);
+    }
+}
+
+/// The count of monitors, the counts and the bytes after the masks, of a state that owes something to number 3.
+#[test]
+fn each_byte_of_the_header_beside_a_debt() {
+    let bytes = owing(5, 512, [0, 0, 0x0100, 0, 0, 0, 0, 0]);
+    each_value(&bytes, MONITORS_AT, |new| (3..=8).contains(&new));
+    for at in (SPACE_COUNT_AT..OWED.start).chain(HEADER_USED..SPACES_AT) {
         let old = bytes[at];
         each_value(&bytes, at, |new| new == old);
     }

@@ -1,9 +1,11 @@
-//! The ends of every range and table, with the values that document 01 and request L1 of document 02 give.
+//! The ends of every range and table, with the values that document 01 and requests L1 and L3 of document 02 give.
 
-use harness::hex::{record, unhex};
-use harness::layout::{set_next, space, HOSTS, LAST, NEXT, REPLY_BYTES, SPACE_COUNT_AT};
+use harness::hex::{hex, record, unhex};
+use harness::layout::{owed, set_next, space, HOSTS, LAST, NEXT, REPLY_BYTES, SPACE_COUNT_AT};
 use harness::library::LIBRARY;
 use harness::replica::{reply, Replica};
+use harness::states;
+use reference::statement;
 
 #[test]
 fn the_last_position() {
@@ -122,6 +124,74 @@ fn a_body_of_250_bytes_is_legal_and_one_of_251_is_not() {
 fn a_body_of_65535_bytes_is_malformed() {
     let mut replica = Replica::up();
     replica.expect_unchanged("AG", &"00".repeat(65_535), "2 255 65535 6 0");
+}
+
+// ---- Calls with as much to lay down as there can be ----
+
+/// The failure tuple as an entry has it.
+fn notice((monitor, host): (u8, u8)) -> String {
+    format!("0000 03 01 00000001 00 {monitor:08X} 00 {host:08X}")
+}
+
+/// These are all tuples, nothing is owed and nobody waits.
+fn expect_settled(replica: &Replica, tuples: &[String]) {
+    replica.expect_tuples(&tuples.iter().map(String::as_str).collect::<Vec<&str>>());
+    assert_eq!((owed(&replica.state), replica.waiting_count()), ([0; 8], 0));
+}
+
+/// Nobody waits: all 128 pairs are laid down at once.
+#[test]
+fn ds_of_512_tuples_lays_128_pairs() {
+    let mut replica = Replica::of(states::bytes(&states::owing(1, &states::pairs())), 1000);
+    replica.expect("DS", "02 0007 0001", &["1001 2 7 0 0"]);
+    let notices: Vec<String> = states::pairs().into_iter().map(notice).collect();
+    assert_eq!((notices.len(), notices[16].as_str()), (128, "0000 03 01 00000001 00 00000002 00 00000000"));
+    expect_settled(&replica, &notices);
+}
+
+/// 128 are laid down at once, and 32 statements take one each, the oldest statement the oldest notice.
+#[test]
+fn ds_of_512_tuples_lays_128_pairs_and_wakes_32() {
+    let mut replica = Replica::of(states::bytes(&states::told()), 1000);
+    let mut lines = vec!["1001 2 7 0 0".to_string()];
+    for (at, (monitor, host)) in (0..32).zip(states::pairs()) {
+        lines.push(format!("{} 2 {} 0 1 0:0:{monitor:08X} 1:0:{host:08X}", at + 1, at + 100));
+    }
+    replica.expect("DS", "02 0007 0001", &lines.iter().map(String::as_str).collect::<Vec<&str>>());
+    let left: Vec<String> = states::pairs()[32..].iter().copied().map(notice).collect();
+    expect_settled(&replica, &left);
+}
+
+/// Four pairs are laid down after the own statement and after each of 31 woken ones, until all 128 are. The queue is
+/// searched 33 times, and each time all older statements are tried before the youngest is woken.
+#[test]
+fn pairs_laid_in_32_portions() {
+    let mut replica = Replica::of(states::bytes(&states::owed_chain()), 1000);
+    let takes = statement::write(&states::statement(2, 7, states::take_four()));
+    let mut lines = vec!["1001 2 7 0 1".to_string()];
+    lines.extend((0..32).rev().map(|at| format!("{} 2 {} 0 4", at + 1, at + 100)));
+    replica.expect("AG", &hex(&takes), &lines.iter().map(String::as_str).collect::<Vec<&str>>());
+    let head = "0000 06 01 00000007 00 00000001 01 00000002 00 00000003 00 00000004";
+    let mut left: Vec<String> = (1_100..1_512).map(|number: u32| format!("{head} 00 {number:08X}")).collect();
+    let untaken = states::pairs().into_iter().enumerate().filter(|(at, _)| at % 4 > 0);
+    left.extend(untaken.map(|(_, pair)| notice(pair)));
+    assert_eq!(left.len(), 508);
+    expect_settled(&replica, &left);
+}
+
+/// All sixteen hosts are owed to all eight monitors already, and crash once more.
+#[test]
+fn crashes_that_owe_nothing_new() {
+    let mut run = states::owing(0, &states::pairs());
+    run.up = [true; 16];
+    let mut replica = Replica::of(states::bytes(&run), 1000);
+    for host in 0..16_u32 {
+        let line = format!("{} {host} 0 0 0 0:0:{:08X}", 1001 + host, 15 - host);
+        let before = replica.state.clone();
+        replica.expect("CR", &format!("{host:02X}"), &[&line]);
+        assert!(replica.state[HOSTS.end..] == before[HOSTS.end..]);
+    }
+    assert_eq!(owed(&replica.state), [0xFFFF; 8]);
 }
 
 // ---- Space numbers of two bytes ----

@@ -20,7 +20,7 @@ fn expect_all(start: &str, names: &[(&str, usize)]) {
 
 #[test]
 fn the_layout_is_the_librarys() {
-    assert_eq!((defined("REPLICA_LAYOUT"), unsafe { replica_layout() }), (2, 2));
+    assert_eq!((defined("REPLICA_LAYOUT"), unsafe { replica_layout() }), (3, 3));
 }
 
 #[test]

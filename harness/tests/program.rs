@@ -110,6 +110,44 @@ fn short_reads() {
     }
 }
 
+/// 512 tuples, two monitors and two crashes: no line tells of the four failure tuples that are owed, until ins make
+/// room for them.
+#[test]
+fn a_stream_that_owes() {
+    let copies = "07 0000 0000 00".repeat(7);
+    let takes = "02 0005 01 01 0000 01 05 00 00";
+    let waits = "02 0006 01 01 0000 03 00 01 00000001 01 00 00 01 00 01 00";
+    let bodies = [
+        ("RV", "02".to_string()),
+        ("RV", "03".to_string()),
+        ("RV", "0F".to_string()),
+        ("MO", "02 0005".to_string()),
+        ("MO", "02 0005".to_string()),
+        ("AG", format!("02 0005 01 00 08 05 0000 01 00 00 00000000 {copies}")),
+        ("AG", "02 0005 01 00 02 07 0000 0000 00 07 0000 0000 00".to_string()),
+        ("AG", "02 0005 01 00 01 05 0000 01 00 00 00000000".to_string()),
+        ("CR", "0F".to_string()),
+        ("CR", "03".to_string()),
+        ("RV", "03".to_string()),
+        ("AG", waits.to_string()),
+        ("AG", takes.to_string()),
+        ("AG", waits.to_string()),
+        ("AG", waits.to_string()),
+        ("AG", waits.to_string()),
+        ("AG", waits.to_string()),
+    ];
+    let records = bodies.iter().zip(1..).map(|((mark, body), position)| record(mark, position, body));
+    let stream: Vec<u8> = records.flatten().collect();
+    let lines = "\
+        1 2 0 0 0 0:0:00000001\n2 3 0 0 0 0:0:00000002\n3 15 0 0 0 0:0:00000003\n\
+        4 2 5 0 0 0:0:00000001\n5 2 5 0 0 0:0:00000002\n6 2 5 0 1\n7 2 5 0 1\n8 2 5 12 1\n\
+        9 15 0 0 0 0:0:00000002\n10 3 0 0 0 0:0:00000001\n11 3 0 0 0 0:0:00000002\n\
+        13 2 5 0 1\n12 2 6 0 1 0:0:00000001 1:0:00000003\n\
+        14 2 6 0 1 0:0:00000001 1:0:0000000F\n15 2 6 0 1 0:0:00000002 1:0:00000003\n\
+        16 2 6 0 1 0:0:00000002 1:0:0000000F\n";
+    assert_eq!(printed(&stream, &Pieces::whole()), lines);
+}
+
 /// Records of 65,543 bytes, whole, in pieces, and cut.
 #[test]
 fn the_longest_records() {

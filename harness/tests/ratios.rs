@@ -1,7 +1,7 @@
 //! The ratios of two files of plain output, on small ones whose ratios are worked out by hand; the rows.
 
 use harness::layout::{
-    tuple, tuple_count, SPACE_COUNT_AT, VALUES_AT, VALUE_BYTES, VALUE_COUNT_AT, WAITING_COUNT_AT,
+    owed, tuple, tuple_count, SPACE_COUNT_AT, VALUES_AT, VALUE_BYTES, VALUE_COUNT_AT, WAITING_COUNT_AT,
 };
 use harness::library::LIBRARY;
 use harness::ratios::{line, read, Ratio, Ratios};
@@ -211,6 +211,31 @@ fn the_row_that_wakes_from_the_youngest() {
     let woken = (1..=32).rev().map(|position| (position, 0));
     assert_eq!(answered[1..], woken.collect::<Vec<_>>());
     assert_eq!((tuple_count(&state), state[WAITING_COUNT_AT]), (512, 0));
+}
+
+/// They come last, so that the rows of an older library are the first ones. Each with the bytes of its replies, the
+/// tuples that it leaves, and the pairs owed before and after it.
+#[test]
+fn rows_of_debts() {
+    let rows = rows::taken();
+    let (older, debts) = rows.split_at(rows.len() - 6);
+    assert!(older.iter().all(|row| row.since == 2) && debts.iter().all(|row| row.since == 3));
+    let pairs = |state: &[u8]| owed(state).iter().map(|mask| mask.count_ones()).sum::<u32>();
+    let expected = [
+        ("512 tuples, 8 monitors, crash", 18, 512, 0, 8),
+        ("512 tuples, a pair owed, in of the newest", 12, 512, 1, 0),
+        ("a pair owed, in that wakes a move of 512", 2 * 12, 512, 1, 0),
+        ("512 tuples, 128 pairs owed, DS of all", 12, 128, 128, 0),
+        ("512 tuples, 128 pairs owed, DS that wakes 32", 12 + 32 * 24, 96, 128, 0),
+        ("128 pairs owed, 32 x 4 guards, youngest first", 33 * 12, 508, 128, 0),
+    ];
+    for (row, (name, count, tuples, before, after)) in debts.iter().zip(expected) {
+        let (mut state, mut reply) = (row.states[0].clone(), vec![0; row.reply_length]);
+        assert_eq!((row.name, tuple_count(&state), pairs(&state)), (name, 512, before));
+        assert_eq!((LIBRARY.take)(&mut state, &row.record, &mut reply), count, "{name}");
+        assert_eq!((reply[9], tuple_count(&state), pairs(&state)), (0, tuples, after), "{name}");
+        assert_eq!(state[WAITING_COUNT_AT], 0, "{name}");
+    }
 }
 
 /// What the program says of two files of these bytes.

@@ -1,7 +1,7 @@
 //! Every number of "Turned back" with its example, and the order of the checks.
 
 use harness::hex::record;
-use harness::layout::HOSTS;
+use harness::layout::{owed, HOSTS};
 use harness::replica::Replica;
 
 #[test]
@@ -113,6 +113,7 @@ fn refusals_10_and_11() {
     replica.expect_tuples(&[]);
 }
 
+/// Of a statement alone: a crash without room is done, and its failure tuple is owed.
 #[test]
 fn refusal_12() {
     let mut replica = Replica::full();
@@ -120,8 +121,9 @@ fn refusal_12() {
     replica.expect_unchanged("AG", "02 0005 01 00 01 07 0000 0000 00", "5 2 5 12 1");
     replica.expect("MO", "02 0005", &["6 2 5 0 0 0:0:00000001"]);
     replica.expect("AG", "02 0005 01 01 0000 01 00 01 00000007 00", &[]);
-    replica.expect_unchanged("CR", "02", "8 2 0 12 0");
-    assert_eq!(replica.waiting_count(), 1);
+    replica.expect("CR", "02", &["8 2 0 0 0 0:0:00000000"]);
+    assert_eq!((replica.waiting_count(), replica.tuple_count()), (0, 512));
+    assert_eq!(owed(&replica.state), [0x0004, 0, 0, 0, 0, 0, 0, 0]);
 }
 
 #[test]

@@ -4,6 +4,7 @@ use crate::run::{Reply, Run, Space, Tuple, Waiting};
 use crate::run::{MOST_MONITORS, MOST_SPACES, MOST_TUPLES, MOST_WAITING, NUMBERS_USED_UP};
 use crate::statement::{self, SpaceNumber, MOST_FIELDS};
 use crate::value::Value;
+use std::collections::BTreeSet;
 
 pub const STATE_BYTES: usize = 25_312;
 pub const REPLY_BYTES: usize = 3_564;
@@ -16,7 +17,9 @@ pub const NEXT_AT: usize = MONITORS_AT + 1;
 pub const SPACE_COUNT_AT: usize = NEXT_AT + 4;
 pub const TUPLE_COUNT_AT: usize = SPACE_COUNT_AT + 1;
 pub const WAITING_COUNT_AT: usize = TUPLE_COUNT_AT + 2;
-pub const HEADER_USED: usize = WAITING_COUNT_AT + 1;
+pub const OWED_AT: usize = WAITING_COUNT_AT + 1;
+pub const OWED_BYTES: usize = 2 * MOST_MONITORS as usize;
+pub const HEADER_USED: usize = OWED_AT + OWED_BYTES;
 
 // A space entry: the number, then these.
 pub const KIND_AT: usize = size_of::<SpaceNumber>();
@@ -46,8 +49,15 @@ fn put(bytes: &mut [u8], at: usize, part: &[u8]) {
     bytes[at..at + part.len()].copy_from_slice(part);
 }
 
-fn mask(up: &[bool; 16]) -> u16 {
-    (0..16).map(|host| u16::from(up[host]) << host).sum()
+/// Bit h for host h.
+fn mask(hosts: &[bool; 16]) -> u16 {
+    (0..16).map(|host| u16::from(hosts[host]) << host).sum()
+}
+
+/// The mask of each monitor number from 1 on, bit h for host h.
+fn owed_bytes(owed: &BTreeSet<(u8, u8)>) -> Vec<u8> {
+    let is_owed = |monitor: u8| std::array::from_fn(|host| owed.contains(&(monitor, host as u8)));
+    (1..=MOST_MONITORS).flat_map(|monitor| mask(&is_owed(monitor)).to_be_bytes()).collect()
 }
 
 fn space_bytes(space: &Space) -> Vec<u8> {
@@ -91,6 +101,7 @@ fn put_header(bytes: &mut [u8], run: &Run) {
     put(bytes, SPACE_COUNT_AT, &[run.spaces.len() as u8]);
     put(bytes, TUPLE_COUNT_AT, &(run.tuples.len() as u16).to_be_bytes());
     put(bytes, WAITING_COUNT_AT, &[run.waiting.len() as u8]);
+    put(bytes, OWED_AT, &owed_bytes(&run.owed));
 }
 
 /// The 25,312 bytes of a run within the limits.
@@ -130,6 +141,22 @@ fn number2(bytes: &[u8], at: usize) -> u16 {
 
 fn number4(bytes: &[u8], at: usize) -> u32 {
     u32::from_be_bytes([bytes[at], bytes[at + 1], bytes[at + 2], bytes[at + 3]])
+}
+
+/// The hosts of the mask at a place.
+fn read_mask(bytes: &[u8], at: usize) -> [bool; 16] {
+    let mask = number2(bytes, at);
+    std::array::from_fn(|host| mask >> host & 1 == 1)
+}
+
+/// The pairs in the masks of all monitor numbers, given or not.
+fn read_owed(bytes: &[u8]) -> BTreeSet<(u8, u8)> {
+    let mut owed = BTreeSet::new();
+    for monitor in 1..=MOST_MONITORS {
+        let hosts = read_mask(bytes, OWED_AT + 2 * (usize::from(monitor) - 1));
+        owed.extend((0..16).filter(|host| hosts[usize::from(*host)]).map(|host| (monitor, host)));
+    }
+    owed
 }
 
 fn read_value(bytes: &[u8]) -> Option<Value> {
@@ -180,18 +207,18 @@ fn decode(bytes: &[u8]) -> Option<Run> {
     if bytes.len() != STATE_BYTES || bytes[..2] != *b"TS" {
         return None;
     }
-    let hosts = number2(bytes, HOSTS_AT);
     let spaces = bytes[SPACE_COUNT_AT].into();
     let tuples = number2(bytes, TUPLE_COUNT_AT).into();
     let waiting = bytes[WAITING_COUNT_AT].into();
     Some(Run {
         last: number4(bytes, LAST_AT),
-        up: std::array::from_fn(|host| hosts >> host & 1 == 1),
+        up: read_mask(bytes, HOSTS_AT),
         monitors: bytes[MONITORS_AT],
         next: number4(bytes, NEXT_AT),
         spaces: read_section(&bytes[SPACES_AT..TUPLES_AT], SPACE_BYTES, spaces, read_space)?,
         tuples: read_section(&bytes[TUPLES_AT..WAITING_AT], TUPLE_BYTES, tuples, read_tuple)?,
         waiting: read_section(&bytes[WAITING_AT..], WAITING_BYTES, waiting, read_waiting)?,
+        owed: read_owed(bytes),
     })
 }
 
@@ -207,6 +234,12 @@ fn spaces_are_sound(run: &Run) -> bool {
 
 fn tuples_are_sound(run: &Run) -> bool {
     run.tuples.iter().all(|tuple| run.space(tuple.space).is_some())
+}
+
+/// Owed to monitor numbers that were given, and only beside 512 tuples.
+fn debt_is_sound(run: &Run) -> bool {
+    run.owed.iter().all(|(monitor, _)| *monitor <= run.monitors)
+        && (run.owed.is_empty() || run.tuples.len() == MOST_TUPLES)
 }
 
 fn entry_is_sound(run: &Run, entry: &Waiting) -> bool {
@@ -228,6 +261,7 @@ fn is_sound(run: &Run) -> bool {
         && run.waiting.len() <= MOST_WAITING
         && spaces_are_sound(run)
         && tuples_are_sound(run)
+        && debt_is_sound(run)
         && run.waiting.windows(2).all(|pair| pair[0].position < pair[1].position)
         && run.waiting.iter().all(|entry| entry_is_sound(run, entry))
 }

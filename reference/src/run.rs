@@ -4,6 +4,7 @@ use crate::matching::{first_failing, value_of, Failing};
 use crate::statement::{self, Field, Operation, SpaceNumber, Statement};
 use crate::statement::{COPY, IN, INP, MOVE, OUT, RD, RDP, TRUE};
 use crate::value::{name, whole, Value};
+use std::collections::BTreeSet;
 
 pub const MOST_SPACES: usize = 32;
 pub const MOST_TUPLES: usize = 512;
@@ -41,6 +42,9 @@ pub struct Run {
     pub spaces: Vec<Space>,
     pub tuples: Vec<Tuple>,
     pub waiting: Vec<Waiting>,
+    /// The pairs of monitor number and host whose failure tuples found no room,
+    /// in the order in which they are laid down.
+    pub owed: BTreeSet<(u8, u8)>,
 }
 
 #[derive(Clone, PartialEq, Eq, Debug)]
@@ -241,6 +245,11 @@ pub fn execute(statement: &Statement, tuples: &[Tuple]) -> Option<(u8, Ending)> 
     Some((chosen as u8 + 1, Ending::Done { tuples, values }))
 }
 
+/// The tuple that tells a monitor of a crash.
+pub fn failure(monitor: u8, host: u8) -> Tuple {
+    Tuple { space: 0, values: vec![name(1), whole(i32::from(monitor)), whole(i32::from(host))] }
+}
+
 // ---- The run ----
 
 impl Default for Run {
@@ -259,6 +268,7 @@ impl Run {
             spaces: vec![Space { number: 0, private: false, owner: 0 }],
             tuples: Vec::new(),
             waiting: Vec::new(),
+            owed: BTreeSet::new(),
         }
     }
 
@@ -279,8 +289,8 @@ impl Run {
         self.waiting.iter().any(|entry| entry.statement.process == process)
     }
 
-    /// Checks 7 to 15 save 13, in order; None where all pass. For a statement,
-    /// 12 and 13 are tried as it runs.
+    /// Checks 7 to 15 save 12 and 13, in order; None where all pass. A statement
+    /// tries these two as it runs.
     fn check(&self, request: &Request) -> Option<u8> {
         let up = self.up[usize::from(request.host())];
         let recover = matches!(request, Request::Recover { .. });
@@ -302,13 +312,11 @@ impl Run {
         }
     }
 
-    /// 12 for CR, 14 for MO and MS, 15 for DS.
+    /// 14 for MO and MS, 15 for DS.
     fn check_limits(&self, request: &Request) -> Option<u8> {
         let used_up = self.spaces.len() >= MOST_SPACES || self.next >= NUMBERS_USED_UP;
         let named = |space: SpaceNumber| self.waiting.iter().any(|w| w.statement.spaces().contains(&space));
-        let crowded = self.tuples.len() + usize::from(self.monitors) > MOST_TUPLES;
         match request {
-            Request::Crash { .. } if crowded => Some(12),
             Request::Monitor { .. } if self.monitors >= MOST_MONITORS => Some(14),
             Request::Make { .. } if used_up => Some(14),
             Request::Destroy { space, .. } if *space == 0 || named(*space) => Some(15),
@@ -316,17 +324,22 @@ impl Run {
         }
     }
 
-    /// Takes one record: the own reply first, then a reply for each statement woken.
+    /// Takes one record: the own reply first, then a reply for each statement woken, again
+    /// from the oldest until no guard holds. Debts are laid down before each search.
     pub fn step(&mut self, position: u32, mark: Mark, body: &[u8]) -> Vec<Reply> {
         self.last = position;
         let mut replies = Vec::new();
         replies.extend(self.own_reply(position, mark, body));
-        self.wake(&mut replies);
+        self.lay();
+        while let Some(reply) = self.wake_oldest() {
+            replies.push(reply);
+            self.lay();
+        }
         replies
     }
 
-    /// None where the statement waits.
-    fn own_reply(&mut self, position: u32, mark: Mark, body: &[u8]) -> Option<Reply> {
+    /// The record's own effect and reply; None where the statement waits.
+    pub fn own_reply(&mut self, position: u32, mark: Mark, body: &[u8]) -> Option<Reply> {
         let mut reply =
             Reply { position, host: 255, process: 65_535, outcome: 6, branch: 0, values: Vec::new() };
         let Some(request) = read_request(mark, body) else {
@@ -368,13 +381,26 @@ impl Run {
         Some(self.hosts_up() as i32)
     }
 
-    /// Rule 6.
+    /// Rule 6: what finds no room is owed.
     fn crash(&mut self, host: u8) {
         self.up[usize::from(host)] = false;
         self.waiting.retain(|entry| entry.statement.host != host);
         for monitor in 1..=self.monitors {
-            let values = vec![name(1), whole(i32::from(monitor)), whole(i32::from(host))];
-            self.tuples.push(Tuple { space: 0, values });
+            if self.tuples.len() < MOST_TUPLES {
+                self.tuples.push(failure(monitor, host));
+            } else {
+                self.owed.insert((monitor, host));
+            }
+        }
+    }
+
+    /// Lays down as many owed tuples as fit: the lowest monitor first, then the lowest host.
+    pub fn lay(&mut self) {
+        while self.tuples.len() < MOST_TUPLES {
+            let Some((monitor, host)) = self.owed.pop_first() else {
+                return;
+            };
+            self.tuples.push(failure(monitor, host));
         }
     }
 
@@ -415,17 +441,20 @@ impl Run {
         }
     }
 
-    /// Rule 7: again from the oldest, until no guard holds.
-    fn wake(&mut self, replies: &mut Vec<Reply>) {
-        while let Some(at) = self.waiting.iter().position(|w| self.has_guard_that_holds(&w.statement)) {
-            let Waiting { position, statement } = self.waiting.remove(at);
-            let (host, process) = (statement.host, statement.process);
-            let mut reply = Reply { position, host, process, outcome: 0, branch: 0, values: Vec::new() };
-            if let Some((branch, ending)) = execute(&statement, &self.tuples) {
-                self.settle(&mut reply, branch, ending);
-            }
-            replies.push(reply);
+    /// The oldest waiting statement with a guard that holds; None where there is none.
+    pub fn oldest_ready(&self) -> Option<usize> {
+        self.waiting.iter().position(|entry| self.has_guard_that_holds(&entry.statement))
+    }
+
+    /// Rule 7, once: that statement runs and leaves the queue.
+    pub fn wake_oldest(&mut self) -> Option<Reply> {
+        let Waiting { position, statement } = self.waiting.remove(self.oldest_ready()?);
+        let (host, process) = (statement.host, statement.process);
+        let mut reply = Reply { position, host, process, outcome: 0, branch: 0, values: Vec::new() };
+        if let Some((branch, ending)) = execute(&statement, &self.tuples) {
+            self.settle(&mut reply, branch, ending);
         }
+        Some(reply)
     }
 
     pub fn has_guard_that_holds(&self, statement: &Statement) -> bool {

@@ -1,4 +1,4 @@
-//! The cases of document 01 in the layout of L1, with expectations worked out by hand.
+//! The cases of document 01 in the layout of L3, with expectations worked out by hand.
 
 mod common;
 
@@ -192,10 +192,10 @@ fn turned_back_12() {
     let out = "02 0005 01 00 01 05 0000 01 00 00 00000001";
     cabinet.expect_unchanged("AG", out, "5250 00000004 02 0005 0C 01 00");
     cabinet.expect_unchanged("AG", "02 0005 01 00 01 07 0000 0000 00", "5250 00000005 02 0005 0C 01 00");
-    cabinet.expect("MO", "02 0005", "5250 00000006 02 0005 00 00 01 00 00 00000001");
-    cabinet.expect("AG", "02 0005 01 01 0000 01 00 01 00000007 00", "");
-    cabinet.expect_unchanged("CR", "02", "5250 00000008 02 0000 0C 00 00");
-    assert_eq!(cabinet.waiting(), 1);
+    cabinet.expect("AG", "02 0007 01 03 0000 01 00 00 00000009 01 05 0000 01 00 00 00000001", "");
+    let nine = "02 0005 01 01 0000 01 05 00 01 05 0000 01 00 00 00000009";
+    cabinet.expect("AG", nine, "5250 00000007 02 0005 00 01 00  5250 00000006 02 0007 0C 01 00");
+    assert_eq!(cabinet.waiting(), 0);
 }
 
 #[test]

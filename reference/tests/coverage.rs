@@ -1,10 +1,10 @@
 //! The generator reaches every cell that can occur.
 
-use reference::generate::cells::{impossible, missing};
+use reference::generate::cells::{impossible, missing, wanted_of_debts};
 use reference::generate::coverage::Coverage;
 use reference::generate::match_cells;
 use reference::generate::matches::Matches;
-use reference::generate::Stream;
+use reference::generate::{Profile, Stream, PROFILES};
 use std::collections::BTreeSet;
 
 fn run(seed: u64, streams: u64, records: usize) -> Coverage {
@@ -20,7 +20,7 @@ fn run(seed: u64, streams: u64, records: usize) -> Coverage {
 
 #[test]
 fn short_streams_reach_every_cell() {
-    let coverage = run(11, 2100, 15);
+    let coverage = run(11, 2400, 15);
     let missing = missing(&coverage);
     assert!(missing.is_empty(), "never reached: {missing:?}");
     let found = impossible(&coverage);
@@ -29,9 +29,26 @@ fn short_streams_reach_every_cell() {
     assert!(coverage.done * 4 >= coverage.calls);
 }
 
+/// The streams that dwell on debts reach all cells of debts by themselves.
+#[test]
+fn debts_reach_every_cell() {
+    let debts = PROFILES.iter().position(|profile| *profile == Profile::Debts).unwrap() as u64;
+    for seed in [1, 12, 2024] {
+        let mut coverage = Coverage::default();
+        for number in 0..600 {
+            let mut stream = Stream::new(seed, number * PROFILES.len() as u64 + debts);
+            (0..15).for_each(|_| coverage.add(&stream.step()));
+        }
+        let mut missing = wanted_of_debts();
+        missing.retain(|cell| !coverage.cells.contains_key(cell));
+        assert!(missing.is_empty(), "seed {seed}, never reached: {missing:?}");
+        assert!(impossible(&coverage).is_empty());
+    }
+}
+
 #[test]
 fn long_streams_are_mostly_taken() {
-    let coverage = run(5, 21, 300);
+    let coverage = run(5, 24, 300);
     assert!(coverage.taken * 2 >= coverage.calls);
     assert!(coverage.done * 4 >= coverage.calls);
     assert!(impossible(&coverage).is_empty());

@@ -2,11 +2,11 @@
 
 use reference::call::{fresh, split, take};
 use reference::generate::rng::Rng;
-use reference::generate::{join, Step, Stream};
-use reference::layout::{encode, is_state, read_state, REPLY_BYTES, STATE_BYTES};
-use reference::run::{Mark, Run};
+use reference::generate::{join, start, Profile, Step, Stream, PROFILES};
+use reference::layout::{encode, is_state, read_state, reply_bytes, REPLY_BYTES, STATE_BYTES};
+use reference::run::{Mark, Reply, Run, Tuple};
 use reference::statement::{self, Branch, Field, Operation, Statement};
-use reference::value::{metres, whole, Value};
+use reference::value::{metres, name, whole, Value};
 use reference::writer::{self, Addition, Part};
 
 fn each_step(seed: u64, streams: u64, records: usize, mut law: impl FnMut(&Step)) {
@@ -110,7 +110,7 @@ fn replay_from_a_copy_gives_the_same_bytes() {
                 let mut reply = vec![3; REPLY_BYTES];
                 assert_eq!(take(&mut copy, &step.record, &mut reply), step.returned);
                 let replies = run.step(position, mark, body);
-                let bytes: Vec<u8> = replies.iter().flat_map(reference::layout::reply_bytes).collect();
+                let bytes: Vec<u8> = replies.iter().flat_map(reply_bytes).collect();
                 assert!(bytes == step.replies() && encode(&run) == step.after && copy == step.after);
                 pair = Some((copy, run));
                 replayed += 1;
@@ -235,12 +235,213 @@ fn a_stream_from_the_fresh_state_opens_late_spaces() {
     }
 }
 
+// ---- Debts ----
+
+/// Steps of the streams that dwell on debts, taken, with the runs before and after.
+fn each_debt_step(seed: u64, streams: u64, mut law: impl FnMut(&Step, &Run, &Run)) {
+    let debts = PROFILES.iter().position(|profile| *profile == Profile::Debts).expect("a profile") as u64;
+    for number in 0..streams {
+        let mut stream = Stream::new(seed, number * PROFILES.len() as u64 + debts);
+        for step in (0..15).map(|_| stream.step()).filter(Step::is_taken) {
+            let (before, after) = (read_state(&step.before), read_state(&step.after));
+            law(&step, &before.expect("a state"), &after.expect("a state"));
+        }
+    }
+}
+
+/// The pairs in the sixteen bytes of a state, in order.
+fn pairs(state: &[u8]) -> Vec<(u8, u8)> {
+    let mut pairs = Vec::new();
+    for monitor in 1..=8 {
+        let at = 15 + 2 * usize::from(monitor);
+        let mask = u16::from_be_bytes([state[at], state[at + 1]]);
+        pairs.extend((0..16).filter(|host| mask & 1 << host != 0).map(|host| (monitor, host)));
+    }
+    pairs
+}
+
+/// The host of a crash that was done.
+fn crashed(step: &Step) -> Option<u8> {
+    (&step.record[..2] == b"CR" && step.replies()[9] == 0).then(|| step.record[8])
+}
+
+/// The pairs that a crash adds: those without room that are not owed yet.
+fn missed(step: &Step, before: &Run) -> Vec<(u8, u8)> {
+    let Some(host) = crashed(step) else {
+        return Vec::new();
+    };
+    let room = 512 - before.tuples.len();
+    let numbers = (1..=before.monitors).skip(room);
+    numbers.map(|monitor| (monitor, host)).filter(|pair| !before.owed.contains(pair)).collect()
+}
+
+#[test]
+fn owed_beside_512_tuples_alone() {
+    let mut owing = 0;
+    let mut law = |step: &Step| {
+        if is_state(&step.after) {
+            let (pairs, monitors) = (pairs(&step.after), step.after[8]);
+            assert!(pairs.is_empty() || step.after[14..16] == [2, 0]);
+            assert!(pairs.iter().all(|(monitor, _)| *monitor <= monitors));
+            owing += usize::from(!pairs.is_empty());
+        }
+    };
+    each_step(36, 350, 15, &mut law);
+    each_debt_step(36, 100, |step, _, _| law(step));
+    assert!(owing > 500);
+}
+
+/// What is owed after a record are the last of the pairs owed before it and missed by it.
+#[test]
+fn the_first_pairs_are_laid_first() {
+    let mut laid = 0;
+    each_debt_step(37, 150, |step, before, _| {
+        let mut all = [pairs(&step.before), missed(step, before)].concat();
+        all.sort_unstable();
+        let left = pairs(&step.after);
+        assert!(all.ends_with(&left));
+        laid += all.len() - left.len();
+    });
+    assert!(laid > 300);
+}
+
+/// The step in its parts: owed after = before + missed - laid, and no room beside a debt at any search.
+#[test]
+fn a_pair_is_owed_until_it_is_laid() {
+    let mut woken_after = 0;
+    each_debt_step(38, 150, |step, before, after| {
+        let (mark, position, body) = split(&step.record).expect("a record");
+        let mut run = Run { last: position, ..before.clone() };
+        let mut replies: Vec<Reply> = run.own_reply(position, mark, body).into_iter().collect();
+        let mut laid = 0;
+        loop {
+            let count = run.tuples.len();
+            run.lay();
+            laid += run.tuples.len() - count;
+            assert!(run.owed.is_empty() || run.tuples.len() == 512);
+            let Some(reply) = run.wake_oldest() else {
+                break;
+            };
+            replies.push(reply);
+            woken_after += usize::from(laid > 0);
+        }
+        assert_eq!(after.owed.len() + laid, before.owed.len() + missed(step, before).len());
+        let bytes: Vec<u8> = replies.iter().flat_map(reply_bytes).collect();
+        assert!(run == *after && bytes == step.replies());
+    });
+    assert!(woken_after > 50);
+}
+
+/// Where nobody is woken, the tuples end with those laid, in order; before them stands what the record left.
+#[test]
+fn laid_tuples_stand_last() {
+    let mut laid = 0;
+    each_debt_step(39, 150, |step, before, after| {
+        let own = usize::from(step.replies().get(2..6) == Some(&step.record[4..8]));
+        let mut count = 0;
+        each_reply(step.replies(), |_, _, _| count += 1);
+        let gone = before.owed.len().saturating_sub(after.owed.len());
+        if count > own || crashed(step).is_some() || gone == 0 {
+            return;
+        }
+        let (earlier, last) = after.tuples.split_at(after.tuples.len() - gone);
+        for ((monitor, host), tuple) in before.owed.iter().zip(last) {
+            let values = vec![name(1), whole((*monitor).into()), whole((*host).into())];
+            assert_eq!(*tuple, Tuple { space: 0, values });
+        }
+        let bare = Run { owed: Default::default(), ..before.clone() };
+        let mut state = encode(&bare);
+        assert_eq!(take(&mut state, &step.record, &mut vec![0; REPLY_BYTES]), step.returned);
+        assert_eq!(read_state(&state).expect("a state").tuples, earlier);
+        laid += 1;
+    });
+    assert!(laid > 50);
+}
+
+/// A crash of an up host is done; 12 is a statement's alone.
+#[test]
+fn a_crash_is_done_exactly_if_its_host_is_up() {
+    let mut done = 0;
+    each_debt_step(40, 150, |step, before, after| {
+        if let Some((Mark::Cr, _, [host @ 0..=15])) = split(&step.record) {
+            let up = before.up[usize::from(*host)];
+            assert_eq!(step.replies()[9], if up { 0 } else { 7 });
+            assert!(!after.up[usize::from(*host)]);
+            done += usize::from(up);
+        }
+    });
+    assert!(done > 100);
+}
+
+/// Only a crash adds a pair; RV, MO and MS leave all as they are.
+#[test]
+fn nothing_cancels_a_debt() {
+    each_debt_step(41, 100, |step, before, after| {
+        if crashed(step).is_none() {
+            assert!(after.owed.is_subset(&before.owed));
+        }
+        if [&b"RV"[..], b"MO", b"MS"].contains(&&step.record[..2]) {
+            assert_eq!(after.owed, before.owed);
+        }
+    });
+}
+
+#[test]
+fn a_run_written_is_read_back() {
+    let mut rng = Rng::new(42);
+    for _ in 0..300 {
+        let run = start::built(&mut rng, Profile::Debts);
+        let bytes = encode(&run);
+        assert_eq!(pairs(&bytes), run.owed.iter().copied().collect::<Vec<_>>());
+        assert_eq!(read_state(&bytes), Some(run));
+    }
+    each_debt_step(42, 50, |_, _, after| assert_eq!(read_state(&encode(after)).as_ref(), Some(after)));
+}
+
+/// Each of the sixteen bytes changed to any: a state exactly by the two conditions.
+#[test]
+fn a_changed_mask_is_judged_by_numbers_and_tuples() {
+    let mut rng = Rng::new(43);
+    let mut found = [0, 0];
+    each_debt_step(43, 40, |step, _, after| {
+        let mut state = step.after.clone();
+        let (at, any) = (17 + rng.below(16), rng.next() as u8);
+        state[at] = rng.pick(&[0, 1, 128, 255, any]);
+        let pairs = pairs(&state);
+        let given = pairs.iter().all(|(monitor, _)| *monitor <= after.monitors);
+        let expected = given && (pairs.is_empty() || after.tuples.len() == 512);
+        assert_eq!(is_state(&state), expected);
+        found[usize::from(expected)] += 1;
+    });
+    assert!(found[0] > 50 && found[1] > 50);
+}
+
+/// Records in order from the fresh state on come to owe and to lay.
+#[test]
+fn a_stream_from_the_fresh_state_comes_to_owe() {
+    let (mut owing, mut laying) = (0, 0);
+    for number in 0..6 {
+        let mut stream = Stream::from_fresh(44, 8 * number + 7);
+        assert_eq!(stream.profile(), Profile::Debts);
+        let mut run = Run::fresh();
+        for record in (0..150).map(|_| stream.feed()) {
+            let (mark, position, body) = split(&record).expect("a record");
+            let owed = run.owed.clone();
+            run.step(position, mark, body);
+            owing += usize::from(run.owed.len() > owed.len());
+            laying += usize::from(run.owed.len() < owed.len());
+        }
+        assert_eq!(read_state(&encode(&run)), Some(run));
+    }
+    assert!(owing > 20 && laying > 20, "{owing} {laying}");
+}
+
 // ---- The state buffer ----
 
 /// The bytes in use, by the counts of the header.
 fn in_use(state: &[u8]) -> Vec<bool> {
     let mut used = vec![false; STATE_BYTES];
-    used[..17].fill(true);
+    used[..33].fill(true);
     used[64..64 + 5 * usize::from(state[13])].fill(true);
     for at in (0..usize::from(state[14]) * 256 + usize::from(state[15])).map(|i| 224 + 33 * i) {
         used[at..at + 3 + 5 * usize::from(state[at + 2])].fill(true);

@@ -1,8 +1,8 @@
--- Written by tools/states: states as literal bytes, worked out by hand from "The state buffer" of document 01 and the space numbers of document 02; of its conditions, those on length, header and spaces (the others: `contents`). Assumes nothing.
+-- Written by tools/states: states as literal bytes, worked out by hand from "The state buffer" of document 01 and the space numbers and owed hosts of document 02; of its conditions, those on length, header and spaces (the others: `contents`). Assumes nothing.
 use mathlib.Core.Path.{_≡_, refl}
 use Prim.Native.Nat.{ℕ}
 use mathlib.Core.Bool.{true, false}
-use mathlib.Core.List.{List, [], _∷_, _++_, map}
+use mathlib.Core.List.{List, [], _∷_, _++_, map, flatMap}
 use lib.ListN.{replicate}
 use Rattle.basis.specs.Lists.{zeros}
 use Rattle.model.specs.Run.{Run, fresh, Turn}
@@ -11,6 +11,7 @@ use Rattle.layout.specs.States.{encode, decode}
 use Rattle.layout.specs.IsState.{isState}
 use Rattle.calls.specs.Calls.{Bytes, FreshAnswer, freshCall, Lent, Answer, takeCall, stepBytes}
 use Rattle.calls.specs.Computes.{computes}
+use Rattle.cases.specs.Shown.{owedPairs}
 
 -- the run after records, one after the other
 unfoldable pub runOf : Run → List Bytes → Run
@@ -21,6 +22,10 @@ runOf s (x ∷ xs) = runOf ((stepBytes s x) .run) xs
 unfoldable pub repliesOf : Run → List Bytes → List Bytes
 repliesOf s [] = []
 repliesOf s (x ∷ xs) = repliesBytes ((stepBytes s x) .replies) ∷ repliesOf ((stepBytes s x) .run) xs
+
+-- the bytes of one tuple, n times
+unfoldable pub rows : ℕ → List ℕ → List ℕ
+rows n row = flatMap (λ (b : List ℕ). b) (replicate n row)
 
 -- the fresh-state call in a buffer of any bytes of the right length, and in a shorter one
 pub fresh-bytes : freshCall (replicate 25312 165) ≡ record { returned = 0; state = (84 ∷ 83 ∷ (zeros 10 ++ (1 ∷ 1 ∷ zeros 25298))) }
@@ -102,6 +107,67 @@ pub last-left : encode (runOf (decode lastNumbers) lastStream) ≡ (84 ∷ 83 �
 unfolding computes runOf lastNumbers lastStream
 last-left = refl
 
+-- 512 tuples, three hosts up, two monitors, two waiting statements
+unfoldable pub full : Bytes
+full = (84 ∷ 83 ∷ 0 ∷ 0 ∷ 0 ∷ 9 ∷ 128 ∷ 5 ∷ 2 ∷ 0 ∷ 0 ∷ 0 ∷ 4 ∷ 3 ∷ 2 ∷ 0 ∷ 2 ∷ (zeros 53 ++ (2 ∷ 1 ∷ 0 ∷ 5 ∷ 0 ∷ 3 ∷ (zeros 148 ++ (rows 512 (0 ∷ 0 ∷ 1 ∷ 1 ∷ 0 ∷ 0 ∷ 0 ∷ 7 ∷ zeros 25) ++ (0 ∷ 0 ∷ 0 ∷ 3 ∷ 0 ∷ 15 ∷ 2 ∷ 0 ∷ 5 ∷ 1 ∷ 1 ∷ 0 ∷ 2 ∷ 1 ∷ 0 ∷ 1 ∷ 0 ∷ 0 ∷ 0 ∷ 9 ∷ (zeros 239 ++ (7 ∷ 0 ∷ 15 ∷ 15 ∷ 0 ∷ 6 ∷ 1 ∷ 1 ∷ 0 ∷ 0 ∷ 1 ∷ 0 ∷ 1 ∷ 0 ∷ 0 ∷ 0 ∷ 9 ∷ zeros 7916))))))))
+
+-- both monitors are owed hosts 0 and 15: 80 01 at offset 17 and at 19
+unfoldable pub owing : Bytes
+owing = (84 ∷ 83 ∷ 0 ∷ 0 ∷ 0 ∷ 11 ∷ 0 ∷ 4 ∷ 2 ∷ 0 ∷ 0 ∷ 0 ∷ 4 ∷ 3 ∷ 2 ∷ 0 ∷ 1 ∷ 128 ∷ 1 ∷ 128 ∷ 1 ∷ (zeros 49 ++ (2 ∷ 1 ∷ 0 ∷ 5 ∷ 0 ∷ 3 ∷ (zeros 148 ++ (rows 512 (0 ∷ 0 ∷ 1 ∷ 1 ∷ 0 ∷ 0 ∷ 0 ∷ 7 ∷ zeros 25) ++ (0 ∷ 0 ∷ 0 ∷ 3 ∷ 0 ∷ 15 ∷ 2 ∷ 0 ∷ 5 ∷ 1 ∷ 1 ∷ 0 ∷ 2 ∷ 1 ∷ 0 ∷ 1 ∷ 0 ∷ 0 ∷ 0 ∷ 9 ∷ zeros 8172))))))
+
+-- monitor 2 is owed hosts 0 and 15: 80 01 at offset 19
+unfoldable pub partly : Bytes
+partly = (84 ∷ 83 ∷ 0 ∷ 0 ∷ 0 ∷ 12 ∷ 0 ∷ 4 ∷ 2 ∷ 0 ∷ 0 ∷ 0 ∷ 4 ∷ 3 ∷ 2 ∷ 0 ∷ 1 ∷ 0 ∷ 0 ∷ 128 ∷ 1 ∷ (zeros 49 ++ (2 ∷ 1 ∷ 0 ∷ 5 ∷ 0 ∷ 3 ∷ (zeros 148 ++ (rows 510 (0 ∷ 0 ∷ 1 ∷ 1 ∷ 0 ∷ 0 ∷ 0 ∷ 7 ∷ zeros 25) ++ (0 ∷ 0 ∷ 3 ∷ 1 ∷ 0 ∷ 0 ∷ 0 ∷ 1 ∷ 0 ∷ 0 ∷ 0 ∷ 0 ∷ 1 ∷ (zeros 22 ++ (3 ∷ 1 ∷ 0 ∷ 0 ∷ 0 ∷ 1 ∷ 0 ∷ 0 ∷ 0 ∷ 0 ∷ 1 ∷ 0 ∷ 0 ∷ 0 ∷ 0 ∷ 15 ∷ (zeros 18 ++ (3 ∷ 0 ∷ 15 ∷ 2 ∷ 0 ∷ 5 ∷ 1 ∷ 1 ∷ 0 ∷ 2 ∷ 1 ∷ 0 ∷ 1 ∷ 0 ∷ 0 ∷ 0 ∷ 9 ∷ zeros 8172))))))))))
+
+-- 511 tuples, and nothing owed
+unfoldable pub paid : Bytes
+paid = (84 ∷ 83 ∷ 0 ∷ 0 ∷ 0 ∷ 14 ∷ 128 ∷ 4 ∷ 2 ∷ 0 ∷ 0 ∷ 0 ∷ 4 ∷ 3 ∷ 1 ∷ 255 ∷ 1 ∷ (zeros 53 ++ (2 ∷ 1 ∷ 0 ∷ 5 ∷ 0 ∷ 3 ∷ (zeros 148 ++ (rows 507 (0 ∷ 0 ∷ 1 ∷ 1 ∷ 0 ∷ 0 ∷ 0 ∷ 7 ∷ zeros 25) ++ (0 ∷ 0 ∷ 3 ∷ 1 ∷ 0 ∷ 0 ∷ 0 ∷ 1 ∷ 0 ∷ 0 ∷ 0 ∷ 0 ∷ 1 ∷ (zeros 22 ++ (3 ∷ 1 ∷ 0 ∷ 0 ∷ 0 ∷ 1 ∷ 0 ∷ 0 ∷ 0 ∷ 0 ∷ 1 ∷ 0 ∷ 0 ∷ 0 ∷ 0 ∷ 15 ∷ (zeros 17 ++ (3 ∷ 1 ∷ 0 ∷ 0 ∷ 0 ∷ 1 ∷ 0 ∷ 0 ∷ 0 ∷ 0 ∷ 2 ∷ (zeros 22 ++ (3 ∷ 1 ∷ 0 ∷ 0 ∷ 0 ∷ 1 ∷ 0 ∷ 0 ∷ 0 ∷ 0 ∷ 2 ∷ 0 ∷ 0 ∷ 0 ∷ 0 ∷ 15 ∷ (zeros 51 ++ (3 ∷ 0 ∷ 15 ∷ 2 ∷ 0 ∷ 5 ∷ 1 ∷ 1 ∷ 0 ∷ 2 ∷ 1 ∷ 0 ∷ 1 ∷ 0 ∷ 0 ∷ 0 ∷ 9 ∷ zeros 8172))))))))))))))
+
+pub owing-read : owedPairs (decode owing) ≡ (1, 0) ∷ (1, 15) ∷ (2, 0) ∷ (2, 15) ∷ []
+unfolding computes rows owedPairs owing
+owing-read = refl
+
+pub partly-read : owedPairs (decode partly) ≡ (2, 0) ∷ (2, 15) ∷ []
+unfolding computes rows owedPairs partly
+partly-read = refl
+
+-- hosts 0 and 15 crash: one of three is up, and both are owed to both monitors
+pub owing-replies : repliesOf (decode full) ((67 ∷ 82 ∷ 0 ∷ 1 ∷ 0 ∷ 0 ∷ 0 ∷ 10 ∷ 0 ∷ []) ∷ (67 ∷ 82 ∷ 0 ∷ 1 ∷ 0 ∷ 0 ∷ 0 ∷ 11 ∷ 15 ∷ []) ∷ []) ≡ ((82 ∷ 80 ∷ 0 ∷ 0 ∷ 0 ∷ 10 ∷ 0 ∷ 0 ∷ 0 ∷ 0 ∷ 0 ∷ 1 ∷ 0 ∷ 0 ∷ 0 ∷ 0 ∷ 0 ∷ 2 ∷ []) ∷ (82 ∷ 80 ∷ 0 ∷ 0 ∷ 0 ∷ 11 ∷ 15 ∷ 0 ∷ 0 ∷ 0 ∷ 0 ∷ 1 ∷ 0 ∷ 0 ∷ 0 ∷ 0 ∷ 0 ∷ 1 ∷ []) ∷ [])
+unfolding computes repliesOf rows full
+owing-replies = refl
+
+pub owing-left : encode (runOf (decode full) ((67 ∷ 82 ∷ 0 ∷ 1 ∷ 0 ∷ 0 ∷ 0 ∷ 10 ∷ 0 ∷ []) ∷ (67 ∷ 82 ∷ 0 ∷ 1 ∷ 0 ∷ 0 ∷ 0 ∷ 11 ∷ 15 ∷ []) ∷ [])) ≡ owing
+unfolding computes runOf rows full owing
+owing-left = refl
+
+-- a statement takes two tuples: monitor 1 is told of both
+pub partly-replies : repliesOf (decode owing) ((65 ∷ 71 ∷ 0 ∷ 25 ∷ 0 ∷ 0 ∷ 0 ∷ 12 ∷ 2 ∷ 0 ∷ 7 ∷ 1 ∷ 1 ∷ 0 ∷ 0 ∷ 1 ∷ 0 ∷ 1 ∷ 0 ∷ 0 ∷ 0 ∷ 7 ∷ 1 ∷ 1 ∷ 0 ∷ 0 ∷ 1 ∷ 0 ∷ 1 ∷ 0 ∷ 0 ∷ 0 ∷ 7 ∷ []) ∷ []) ≡ ((82 ∷ 80 ∷ 0 ∷ 0 ∷ 0 ∷ 12 ∷ 2 ∷ 0 ∷ 7 ∷ 0 ∷ 1 ∷ 0 ∷ []) ∷ [])
+unfolding computes repliesOf rows owing
+partly-replies = refl
+
+pub partly-left : encode (runOf (decode owing) ((65 ∷ 71 ∷ 0 ∷ 25 ∷ 0 ∷ 0 ∷ 0 ∷ 12 ∷ 2 ∷ 0 ∷ 7 ∷ 1 ∷ 1 ∷ 0 ∷ 0 ∷ 1 ∷ 0 ∷ 1 ∷ 0 ∷ 0 ∷ 0 ∷ 7 ∷ 1 ∷ 1 ∷ 0 ∷ 0 ∷ 1 ∷ 0 ∷ 1 ∷ 0 ∷ 0 ∷ 0 ∷ 7 ∷ []) ∷ [])) ≡ partly
+unfolding computes runOf rows owing partly
+partly-left = refl
+
+-- host 15 comes up again, and a statement takes three tuples: monitor 2 is told of both
+pub paid-replies : repliesOf (decode partly) ((82 ∷ 86 ∷ 0 ∷ 1 ∷ 0 ∷ 0 ∷ 0 ∷ 13 ∷ 15 ∷ []) ∷ (65 ∷ 71 ∷ 0 ∷ 35 ∷ 0 ∷ 0 ∷ 0 ∷ 14 ∷ 2 ∷ 0 ∷ 7 ∷ 1 ∷ 1 ∷ 0 ∷ 0 ∷ 1 ∷ 0 ∷ 1 ∷ 0 ∷ 0 ∷ 0 ∷ 7 ∷ 2 ∷ 1 ∷ 0 ∷ 0 ∷ 1 ∷ 0 ∷ 1 ∷ 0 ∷ 0 ∷ 0 ∷ 7 ∷ 1 ∷ 0 ∷ 0 ∷ 1 ∷ 0 ∷ 1 ∷ 0 ∷ 0 ∷ 0 ∷ 7 ∷ []) ∷ []) ≡ ((82 ∷ 80 ∷ 0 ∷ 0 ∷ 0 ∷ 13 ∷ 15 ∷ 0 ∷ 0 ∷ 0 ∷ 0 ∷ 1 ∷ 0 ∷ 0 ∷ 0 ∷ 0 ∷ 0 ∷ 2 ∷ []) ∷ (82 ∷ 80 ∷ 0 ∷ 0 ∷ 0 ∷ 14 ∷ 2 ∷ 0 ∷ 7 ∷ 0 ∷ 1 ∷ 0 ∷ []) ∷ [])
+unfolding computes repliesOf rows partly
+paid-replies = refl
+
+pub paid-left : encode (runOf (decode partly) ((82 ∷ 86 ∷ 0 ∷ 1 ∷ 0 ∷ 0 ∷ 0 ∷ 13 ∷ 15 ∷ []) ∷ (65 ∷ 71 ∷ 0 ∷ 35 ∷ 0 ∷ 0 ∷ 0 ∷ 14 ∷ 2 ∷ 0 ∷ 7 ∷ 1 ∷ 1 ∷ 0 ∷ 0 ∷ 1 ∷ 0 ∷ 1 ∷ 0 ∷ 0 ∷ 0 ∷ 7 ∷ 2 ∷ 1 ∷ 0 ∷ 0 ∷ 1 ∷ 0 ∷ 1 ∷ 0 ∷ 0 ∷ 0 ∷ 7 ∷ 1 ∷ 0 ∷ 0 ∷ 1 ∷ 0 ∷ 1 ∷ 0 ∷ 0 ∷ 0 ∷ 7 ∷ []) ∷ [])) ≡ paid
+unfolding computes runOf rows partly paid
+paid-left = refl
+
+-- the call that pays a part: what it returns and leaves in both buffers
+pub owing-call : takeCall (record { state = owing; input = (65 ∷ 71 ∷ 0 ∷ 25 ∷ 0 ∷ 0 ∷ 0 ∷ 12 ∷ 2 ∷ 0 ∷ 7 ∷ 1 ∷ 1 ∷ 0 ∷ 0 ∷ 1 ∷ 0 ∷ 1 ∷ 0 ∷ 0 ∷ 0 ∷ 7 ∷ 1 ∷ 1 ∷ 0 ∷ 0 ∷ 1 ∷ 0 ∷ 1 ∷ 0 ∷ 0 ∷ 0 ∷ 7 ∷ []); reply = replicate 3564 165 }) ≡ record { returned = 12; state = partly; reply = (82 ∷ 80 ∷ 0 ∷ 0 ∷ 0 ∷ 12 ∷ 2 ∷ 0 ∷ 7 ∷ 0 ∷ 1 ∷ 0 ∷ []) ++ replicate 3552 165 }
+unfolding computes rows owing partly
+owing-call = refl
+
+-- 1: the mask of a number that was not given; a mask that is not zero beside 511 tuples; the byte behind the masks
+pub refused-owing : returnedFor (84 ∷ 83 ∷ 0 ∷ 0 ∷ 0 ∷ 9 ∷ 0 ∷ 36 ∷ 2 ∷ 0 ∷ 0 ∷ 0 ∷ 4 ∷ 3 ∷ 2 ∷ 0 ∷ 0 ∷ 0 ∷ 0 ∷ 0 ∷ 0 ∷ 128 ∷ 1 ∷ (zeros 47 ++ (2 ∷ 1 ∷ 0 ∷ 5 ∷ 0 ∷ 3 ∷ (zeros 148 ++ (rows 512 (0 ∷ 0 ∷ 1 ∷ 1 ∷ 0 ∷ 0 ∷ 0 ∷ 7 ∷ zeros 25) ++ (zeros 8192)))))) 3564 ∷ returnedFor (84 ∷ 83 ∷ 0 ∷ 0 ∷ 0 ∷ 9 ∷ 0 ∷ 36 ∷ 2 ∷ 0 ∷ 0 ∷ 0 ∷ 4 ∷ 3 ∷ 1 ∷ 255 ∷ 0 ∷ 0 ∷ 0 ∷ 128 ∷ 1 ∷ (zeros 49 ++ (2 ∷ 1 ∷ 0 ∷ 5 ∷ 0 ∷ 3 ∷ (zeros 148 ++ (rows 511 (0 ∷ 0 ∷ 1 ∷ 1 ∷ 0 ∷ 0 ∷ 0 ∷ 7 ∷ zeros 25) ++ (zeros 8225)))))) 3564 ∷ returnedFor (84 ∷ 83 ∷ 0 ∷ 0 ∷ 0 ∷ 9 ∷ 0 ∷ 36 ∷ 2 ∷ 0 ∷ 0 ∷ 0 ∷ 4 ∷ 3 ∷ 2 ∷ 0 ∷ 0 ∷ 0 ∷ 0 ∷ 128 ∷ 1 ∷ (zeros 12 ++ (1 ∷ (zeros 36 ++ (2 ∷ 1 ∷ 0 ∷ 5 ∷ 0 ∷ 3 ∷ (zeros 148 ++ (rows 512 (0 ∷ 0 ∷ 1 ∷ 1 ∷ 0 ∷ 0 ∷ 0 ∷ 7 ∷ zeros 25) ++ (zeros 8192)))))))) 3564 ∷ [] ≡ 1 ∷ 1 ∷ 1 ∷ []
+unfolding computes rows returnedFor
+refused-owing = refl
+
 -- "It is a state exactly if .."
 
 unfoldable pub buffers0 : List (List ℕ)
@@ -133,7 +199,7 @@ states0 = refl
 unfoldable pub buffers9 : List (List ℕ)
 buffers9 =
     -- the first unused byte of the header
-    (84 ∷ 83 ∷ 0 ∷ 0 ∷ 0 ∷ 9 ∷ 0 ∷ 36 ∷ 2 ∷ 0 ∷ 0 ∷ 0 ∷ 4 ∷ 3 ∷ 0 ∷ 1 ∷ 2 ∷ 1 ∷ (zeros 52 ++ (2 ∷ 1 ∷ 0 ∷ 5 ∷ 0 ∷ 3 ∷ (zeros 150 ++ (2 ∷ 1 ∷ 0 ∷ 0 ∷ 0 ∷ 7 ∷ 0 ∷ 255 ∷ 255 ∷ 255 ∷ 255 ∷ (zeros 16886 ++ (3 ∷ 0 ∷ 15 ∷ 2 ∷ 0 ∷ 5 ∷ 1 ∷ 1 ∷ 0 ∷ 2 ∷ 1 ∷ 0 ∷ 1 ∷ 0 ∷ 0 ∷ 0 ∷ 9 ∷ (zeros 239 ++ (7 ∷ 0 ∷ 15 ∷ 5 ∷ 0 ∷ 6 ∷ 1 ∷ 1 ∷ 0 ∷ 0 ∷ 1 ∷ 0 ∷ 1 ∷ 0 ∷ 0 ∷ 0 ∷ 9 ∷ zeros 7916)))))))))
+    (84 ∷ 83 ∷ 0 ∷ 0 ∷ 0 ∷ 9 ∷ 0 ∷ 36 ∷ 2 ∷ 0 ∷ 0 ∷ 0 ∷ 4 ∷ 3 ∷ 0 ∷ 1 ∷ 2 ∷ (zeros 16 ++ (1 ∷ (zeros 36 ++ (2 ∷ 1 ∷ 0 ∷ 5 ∷ 0 ∷ 3 ∷ (zeros 150 ++ (2 ∷ 1 ∷ 0 ∷ 0 ∷ 0 ∷ 7 ∷ 0 ∷ 255 ∷ 255 ∷ 255 ∷ 255 ∷ (zeros 16886 ++ (3 ∷ 0 ∷ 15 ∷ 2 ∷ 0 ∷ 5 ∷ 1 ∷ 1 ∷ 0 ∷ 2 ∷ 1 ∷ 0 ∷ 1 ∷ 0 ∷ 0 ∷ 0 ∷ 9 ∷ (zeros 239 ++ (7 ∷ 0 ∷ 15 ∷ 5 ∷ 0 ∷ 6 ∷ 1 ∷ 1 ∷ 0 ∷ 0 ∷ 1 ∷ 0 ∷ 1 ∷ 0 ∷ 0 ∷ 0 ∷ 9 ∷ zeros 7916)))))))))))
     -- the last one
     ∷ (84 ∷ 83 ∷ 0 ∷ 0 ∷ 0 ∷ 9 ∷ 0 ∷ 36 ∷ 2 ∷ 0 ∷ 0 ∷ 0 ∷ 4 ∷ 3 ∷ 0 ∷ 1 ∷ 2 ∷ (zeros 46 ++ (1 ∷ 0 ∷ 0 ∷ 0 ∷ 0 ∷ 0 ∷ 0 ∷ 2 ∷ 1 ∷ 0 ∷ 5 ∷ 0 ∷ 3 ∷ (zeros 150 ++ (2 ∷ 1 ∷ 0 ∷ 0 ∷ 0 ∷ 7 ∷ 0 ∷ 255 ∷ 255 ∷ 255 ∷ 255 ∷ (zeros 16886 ++ (3 ∷ 0 ∷ 15 ∷ 2 ∷ 0 ∷ 5 ∷ 1 ∷ 1 ∷ 0 ∷ 2 ∷ 1 ∷ 0 ∷ 1 ∷ 0 ∷ 0 ∷ 0 ∷ 9 ∷ (zeros 239 ++ (7 ∷ 0 ∷ 15 ∷ 5 ∷ 0 ∷ 6 ∷ 1 ∷ 1 ∷ 0 ∷ 0 ∷ 1 ∷ 0 ∷ 1 ∷ 0 ∷ 0 ∷ 0 ∷ 9 ∷ zeros 7916)))))))))
     -- a byte more

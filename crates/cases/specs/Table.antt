@@ -6,7 +6,7 @@ use Rattle.calls.specs.Computes.{computes}
 use Rattle.model.specs.Value.{value}
 use Rattle.model.specs.Matching.{Tuple}
 use Rattle.model.specs.Run.{Space, shared, private}
-use Rattle.cases.specs.Shown.{Answered, replies, turnedBack, Shown, left, shownFrom, shown, Case}
+use Rattle.cases.specs.Shown.{Answered, replies, turnedBack, Shown, newestOf, owedPairs, left, shownFrom, shown, Case}
 
 unfoldable pub table : List Case
 table =
@@ -23,8 +23,10 @@ table =
             ∷ [];
         tupleCount = 1;
         tuples = record { space = 0; values = value 1 7 ∷ value 0 42 ∷ [] } ∷ [];
+        newest = [];
         waiting = [];
         spaces = record { number = 0; access = shared } ∷ [];
+        owed = [];
       };
     }
     -- starred: -2147483647 minus 1 is done
@@ -40,8 +42,10 @@ table =
             ∷ [];
         tupleCount = 1;
         tuples = record { space = 0; values = value 0 2147483648 ∷ [] } ∷ [];
+        newest = [];
         waiting = [];
         spaces = record { number = 0; access = shared } ∷ [];
+        owed = [];
       };
     }
     -- starred: -2147483648 minus 1 is 17, and the tuple taken by the guard is still there (rule 5)
@@ -57,8 +61,10 @@ table =
             ∷ [];
         tupleCount = 1;
         tuples = record { space = 0; values = value 0 2147483648 ∷ [] } ∷ [];
+        newest = [];
         waiting = [];
         spaces = record { number = 0; access = shared } ∷ [];
+        owed = [];
       };
     }
     -- starred: metres 40400000 plus 3F000000 is 40600000
@@ -74,8 +80,10 @@ table =
             ∷ [];
         tupleCount = 1;
         tuples = record { space = 0; values = value 2 1080033280 ∷ [] } ∷ [];
+        newest = [];
         waiting = [];
         spaces = record { number = 0; access = shared } ∷ [];
+        owed = [];
       };
     }
     -- starred: metres 7F7FFFFF plus itself is 17
@@ -91,8 +99,10 @@ table =
             ∷ [];
         tupleCount = 1;
         tuples = record { space = 0; values = value 2 2139095039 ∷ [] } ∷ [];
+        newest = [];
         waiting = [];
         spaces = record { number = 0; access = shared } ∷ [];
+        owed = [];
       };
     }
     -- starred: metres 80000000 is 6
@@ -106,8 +116,10 @@ table =
             ∷ [];
         tupleCount = 0;
         tuples = [];
+        newest = [];
         waiting = [];
         spaces = record { number = 0; access = shared } ∷ [];
+        owed = [];
       };
     }
     -- starred: inp on empty gives 18
@@ -121,8 +133,10 @@ table =
             ∷ [];
         tupleCount = 0;
         tuples = [];
+        newest = [];
         waiting = [];
         spaces = record { number = 0; access = shared } ∷ [];
+        owed = [];
       };
     }
     -- starred: in on empty waits
@@ -136,8 +150,10 @@ table =
             ∷ [];
         tupleCount = 0;
         tuples = [];
+        newest = [];
         waiting = 2 ∷ [];
         spaces = record { number = 0; access = shared } ∷ [];
+        owed = [];
       };
     }
     -- starred: copy from 0 to 0 of two tuples leaves four
@@ -151,8 +167,10 @@ table =
             ∷ [];
         tupleCount = 4;
         tuples = record { space = 0; values = value 1 1 ∷ [] } ∷ record { space = 0; values = value 1 2 ∷ [] } ∷ record { space = 0; values = value 1 1 ∷ [] } ∷ record { space = 0; values = value 1 2 ∷ [] } ∷ [];
+        newest = [];
         waiting = [];
         spaces = record { number = 0; access = shared } ∷ [];
+        owed = [];
       };
     }
     -- rule 1: of three matches the oldest is found; rd and rdp leave it, in and inp take it
@@ -174,8 +192,10 @@ table =
             ∷ [];
         tupleCount = 1;
         tuples = record { space = 0; values = value 0 3 ∷ [] } ∷ [];
+        newest = [];
         waiting = [];
         spaces = record { number = 0; access = shared } ∷ [];
+        owed = [];
       };
     }
     -- rule 1: a tuple in another space, of another field count, kind or given value is no match
@@ -193,8 +213,10 @@ table =
             ∷ [];
         tupleCount = 6;
         tuples = record { space = 1; values = value 1 7 ∷ value 0 1 ∷ [] } ∷ record { space = 0; values = value 1 7 ∷ value 0 1 ∷ value 0 1 ∷ [] } ∷ record { space = 0; values = value 1 7 ∷ [] } ∷ record { space = 0; values = value 1 7 ∷ value 1 1 ∷ [] } ∷ record { space = 0; values = value 0 7 ∷ value 0 1 ∷ [] } ∷ record { space = 0; values = value 1 8 ∷ value 0 1 ∷ [] } ∷ [];
+        newest = [];
         waiting = [];
         spaces = record { number = 0; access = shared } ∷ record { number = 1; access = shared } ∷ [];
+        owed = [];
       };
     }
     -- form 2 in a later template: only the tuple with the variable's value matches, in and move alike
@@ -210,8 +232,10 @@ table =
             ∷ [];
         tupleCount = 4;
         tuples = record { space = 0; values = value 1 8 ∷ value 0 1 ∷ [] } ∷ record { space = 0; values = value 0 3 ∷ [] } ∷ record { space = 0; values = value 0 2 ∷ [] } ∷ record { space = 0; values = value 1 9 ∷ value 0 2 ∷ [] } ∷ [];
+        newest = [];
         waiting = [];
         spaces = record { number = 0; access = shared } ∷ [];
+        owed = [];
       };
     }
     -- values come in rising variable number, though bound in another order, in the guard and in the body
@@ -227,8 +251,10 @@ table =
             ∷ [];
         tupleCount = 1;
         tuples = record { space = 0; values = value 2 1077936128 ∷ [] } ∷ [];
+        newest = [];
         waiting = [];
         spaces = record { number = 0; access = shared } ∷ [];
+        owed = [];
       };
     }
     -- a statement's values are all its bound variables, here 16
@@ -244,8 +270,10 @@ table =
             ∷ [];
         tupleCount = 0;
         tuples = [];
+        newest = [];
         waiting = [];
         spaces = record { number = 0; access = shared } ∷ [];
+        owed = [];
       };
     }
     -- rule 2: of two branches that hold the first is chosen, whatever the age of the tuples; it alone binds
@@ -261,8 +289,10 @@ table =
             ∷ [];
         tupleCount = 1;
         tuples = record { space = 0; values = value 1 1 ∷ [] } ∷ [];
+        newest = [];
         waiting = [];
         spaces = record { number = 0; access = shared } ∷ [];
+        owed = [];
       };
     }
     -- rule 2: a true guard after an in guard with no match runs, and nothing waits
@@ -276,8 +306,10 @@ table =
             ∷ [];
         tupleCount = 1;
         tuples = record { space = 0; values = value 1 2 ∷ [] } ∷ [];
+        newest = [];
         waiting = [];
         spaces = record { number = 0; access = shared } ∷ [];
+        owed = [];
       };
     }
     -- rule 2: inp and rdp alone give 18; one rd among them waits
@@ -293,8 +325,10 @@ table =
             ∷ [];
         tupleCount = 0;
         tuples = [];
+        newest = [];
         waiting = 3 ∷ [];
         spaces = record { number = 0; access = shared } ∷ [];
+        owed = [];
       };
     }
     -- rule 3: a move within a space goes to the end in the old order; what does not match keeps its place
@@ -310,8 +344,10 @@ table =
             ∷ [];
         tupleCount = 4;
         tuples = record { space = 0; values = value 1 2 ∷ [] } ∷ record { space = 0; values = value 1 3 ∷ [] } ∷ record { space = 0; values = value 1 1 ∷ value 0 1 ∷ [] } ∷ record { space = 0; values = value 1 1 ∷ value 0 2 ∷ [] } ∷ [];
+        newest = [];
         waiting = [];
         spaces = record { number = 0; access = shared } ∷ [];
+        owed = [];
       };
     }
     -- rule 3: a move between spaces takes all matches and leaves the rest; a copy leaves the matches too
@@ -329,8 +365,10 @@ table =
             ∷ [];
         tupleCount = 5;
         tuples = record { space = 0; values = value 1 2 ∷ [] } ∷ record { space = 1; values = value 0 4 ∷ [] } ∷ record { space = 1; values = value 0 1 ∷ [] } ∷ record { space = 1; values = value 0 3 ∷ [] } ∷ record { space = 0; values = value 0 3 ∷ [] } ∷ [];
+        newest = [];
         waiting = [];
         spaces = record { number = 0; access = shared } ∷ record { number = 1; access = shared } ∷ [];
+        owed = [];
       };
     }
     -- rule 3: move and copy with 0 fields match every tuple of the space, of any field count, and no other
@@ -350,8 +388,10 @@ table =
             ∷ [];
         tupleCount = 5;
         tuples = record { space = 2; values = value 1 2 ∷ [] } ∷ record { space = 1; values = value 1 1 ∷ [] } ∷ record { space = 1; values = value 0 3 ∷ value 0 4 ∷ [] } ∷ record { space = 2; values = value 1 1 ∷ [] } ∷ record { space = 2; values = value 0 3 ∷ value 0 4 ∷ [] } ∷ [];
+        newest = [];
         waiting = [];
         spaces = record { number = 0; access = shared } ∷ record { number = 1; access = shared } ∷ record { number = 2; access = shared } ∷ [];
+        owed = [];
       };
     }
     -- rule 3: the body runs in order: an in finds what the out before it left
@@ -365,8 +405,10 @@ table =
             ∷ [];
         tupleCount = 0;
         tuples = [];
+        newest = [];
         waiting = [];
         spaces = record { number = 0; access = shared } ∷ [];
+        owed = [];
       };
     }
     -- rule 4: plus and minus on whole numbers, of either sign
@@ -382,8 +424,10 @@ table =
             ∷ [];
         tupleCount = 1;
         tuples = record { space = 0; values = value 0 42 ∷ value 0 38 ∷ value 0 4294967286 ∷ value 0 90 ∷ [] } ∷ [];
+        newest = [];
         waiting = [];
         spaces = record { number = 0; access = shared } ∷ [];
+        owed = [];
       };
     }
     -- rule 4: the exact result decides: -1 minus -2147483648 is done, 0 minus -2147483648 is 17, -2147483648 plus -1 is 17
@@ -403,8 +447,10 @@ table =
             ∷ [];
         tupleCount = 3;
         tuples = record { space = 0; values = value 1 2 ∷ value 0 0 ∷ [] } ∷ record { space = 0; values = value 1 3 ∷ value 0 2147483648 ∷ [] } ∷ record { space = 0; values = value 0 2147483647 ∷ [] } ∷ [];
+        newest = [];
         waiting = [];
         spaces = record { number = 0; access = shared } ∷ [];
+        owed = [];
       };
     }
     -- rule 4: metres 40400000 minus 3F000000 is 40200000, minus itself 00000000, minus 40600000 is BF000000
@@ -420,8 +466,10 @@ table =
             ∷ [];
         tupleCount = 1;
         tuples = record { space = 0; values = value 2 1075838976 ∷ value 2 0 ∷ value 2 3204448256 ∷ [] } ∷ [];
+        newest = [];
         waiting = [];
         spaces = record { number = 0; access = shared } ∷ [];
+        owed = [];
       };
     }
     -- rule 4: metres are rounded to the nearest, halves to even: 3F800000 plus 33800000, plus 33800001; 3F800001 plus 33800000
@@ -437,8 +485,10 @@ table =
             ∷ [];
         tupleCount = 1;
         tuples = record { space = 0; values = value 2 1065353216 ∷ value 2 1065353217 ∷ value 2 1065353218 ∷ [] } ∷ [];
+        newest = [];
         waiting = [];
         spaces = record { number = 0; access = shared } ∷ [];
+        owed = [];
       };
     }
     -- rule 4: small metres are kept: 00800000 minus 00000001 is 007FFFFF
@@ -454,8 +504,10 @@ table =
             ∷ [];
         tupleCount = 1;
         tuples = record { space = 0; values = value 2 8388607 ∷ [] } ∷ [];
+        newest = [];
         waiting = [];
         spaces = record { number = 0; access = shared } ∷ [];
+        owed = [];
       };
     }
     -- rule 4: metres 00800001 minus 00800000 is 00000001; 3FFFFFFF plus 33800000 carries to 40000000; 4C000000 minus 3FFFFFFF is 4BFFFFFF, minus 3F7FFFFF still 4C000000
@@ -471,8 +523,10 @@ table =
             ∷ [];
         tupleCount = 1;
         tuples = record { space = 0; values = value 2 1 ∷ value 2 1073741824 ∷ value 2 1275068415 ∷ value 2 1275068416 ∷ [] } ∷ [];
+        newest = [];
         waiting = [];
         spaces = record { number = 0; access = shared } ∷ [];
+        owed = [];
       };
     }
     -- rule 4: metres 7F7FFFFF plus 72FFFFFF is done and rounds to 7F7FFFFF; plus 73000000 it is 17
@@ -490,8 +544,10 @@ table =
             ∷ [];
         tupleCount = 1;
         tuples = record { space = 0; values = value 2 2139095039 ∷ [] } ∷ [];
+        newest = [];
         waiting = [];
         spaces = record { number = 0; access = shared } ∷ [];
+        owed = [];
       };
     }
     -- rule 5: a body in with no match is 16 of branch 2; the tuple the guard took and the order are as before, the out is undone
@@ -507,8 +563,10 @@ table =
             ∷ [];
         tupleCount = 2;
         tuples = record { space = 0; values = value 1 7 ∷ [] } ∷ record { space = 0; values = value 1 8 ∷ [] } ∷ [];
+        newest = [];
         waiting = [];
         spaces = record { number = 0; access = shared } ∷ [];
+        owed = [];
       };
     }
     -- rule 5: a body rd with no match is 16, and does not wait
@@ -524,8 +582,10 @@ table =
             ∷ [];
         tupleCount = 1;
         tuples = record { space = 0; values = value 1 7 ∷ [] } ∷ [];
+        newest = [];
         waiting = [];
         spaces = record { number = 0; access = shared } ∷ [];
+        owed = [];
       };
     }
     -- rule 5: 17 undoes the guard and the out before it
@@ -541,8 +601,10 @@ table =
             ∷ [];
         tupleCount = 2;
         tuples = record { space = 0; values = value 0 2147483647 ∷ [] } ∷ record { space = 0; values = value 1 1 ∷ [] } ∷ [];
+        newest = [];
         waiting = [];
         spaces = record { number = 0; access = shared } ∷ [];
+        owed = [];
       };
     }
     -- rule 6: RV and CR give the count of hosts up; MO gives 1, then 2; a crash leaves a tuple for each monitor in rising order
@@ -564,8 +626,10 @@ table =
             ∷ [];
         tupleCount = 3;
         tuples = record { space = 0; values = value 1 9 ∷ [] } ∷ record { space = 0; values = value 1 1 ∷ value 0 1 ∷ value 0 15 ∷ [] } ∷ record { space = 0; values = value 1 1 ∷ value 0 2 ∷ value 0 15 ∷ [] } ∷ [];
+        newest = [];
         waiting = [];
         spaces = record { number = 0; access = shared } ∷ [];
+        owed = [];
       };
     }
     -- rule 6: a crash drops the host's waiting statements without reply, so the tuple stays; its process waits no more
@@ -589,8 +653,10 @@ table =
             ∷ [];
         tupleCount = 1;
         tuples = record { space = 0; values = value 1 1 ∷ value 0 1 ∷ value 0 3 ∷ [] } ∷ [];
+        newest = [];
         waiting = 5 ∷ [];
         spaces = record { number = 0; access = shared } ∷ [];
+        owed = [];
       };
     }
     -- rules 6 and 7: the failure tuple wakes a waiting statement
@@ -610,8 +676,10 @@ table =
             ∷ [];
         tupleCount = 0;
         tuples = [];
+        newest = [];
         waiting = [];
         spaces = record { number = 0; access = shared } ∷ [];
+        owed = [];
       };
     }
     -- a crash with no monitor leaves no tuple; the host is then not up, and may come up again
@@ -633,8 +701,10 @@ table =
             ∷ [];
         tupleCount = 0;
         tuples = [];
+        newest = [];
         waiting = [];
         spaces = record { number = 0; access = shared } ∷ [];
+        owed = [];
       };
     }
     -- rule 7: the younger of two waiting statements feeds the older: own reply, then 3, then 2
@@ -652,8 +722,10 @@ table =
             ∷ [];
         tupleCount = 0;
         tuples = [];
+        newest = [];
         waiting = [];
         spaces = record { number = 0; access = shared } ∷ [];
+        owed = [];
       };
     }
     -- rule 7: the search begins again from the oldest: 3 feeds 2 and 4, and 2 comes before 4
@@ -673,8 +745,10 @@ table =
             ∷ [];
         tupleCount = 0;
         tuples = [];
+        newest = [];
         waiting = [];
         spaces = record { number = 0; access = shared } ∷ [];
+        owed = [];
       };
     }
     -- rule 7: of two that wait for one tuple the older gets it, the younger goes on waiting
@@ -692,8 +766,10 @@ table =
             ∷ [];
         tupleCount = 0;
         tuples = [];
+        newest = [];
         waiting = 3 ∷ [];
         spaces = record { number = 0; access = shared } ∷ [];
+        owed = [];
       };
     }
     -- rule 7: a rd that waits leaves the tuple to the in that waits after it
@@ -711,8 +787,10 @@ table =
             ∷ [];
         tupleCount = 0;
         tuples = [];
+        newest = [];
         waiting = [];
         spaces = record { number = 0; access = shared } ∷ [];
+        owed = [];
       };
     }
     -- rule 7: a woken statement that ends in 16 leaves the queue and changes nothing; the next one finds the tuple
@@ -730,8 +808,10 @@ table =
             ∷ [];
         tupleCount = 0;
         tuples = [];
+        newest = [];
         waiting = [];
         spaces = record { number = 0; access = shared } ∷ [];
+        owed = [];
       };
     }
     -- rule 7: a woken statement that ends in 17 leaves the queue and its tuple
@@ -747,8 +827,10 @@ table =
             ∷ [];
         tupleCount = 1;
         tuples = record { space = 0; values = value 1 7 ∷ value 0 2147483647 ∷ [] } ∷ [];
+        newest = [];
         waiting = [];
         spaces = record { number = 0; access = shared } ∷ [];
+        owed = [];
       };
     }
     -- rule 7: a statement that waits with three branches is woken on branch 2, by a tuple that this one matches
@@ -766,8 +848,10 @@ table =
             ∷ [];
         tupleCount = 2;
         tuples = record { space = 0; values = value 1 5 ∷ [] } ∷ record { space = 0; values = value 1 3 ∷ [] } ∷ [];
+        newest = [];
         waiting = [];
         spaces = record { number = 0; access = shared } ∷ [];
+        owed = [];
       };
     }
     -- rule 7: an inp or a rdp guard beside an in guard wakes the waiting statement, and takes or leaves its tuple
@@ -785,8 +869,10 @@ table =
             ∷ [];
         tupleCount = 1;
         tuples = record { space = 0; values = value 1 3 ∷ [] } ∷ [];
+        newest = [];
         waiting = [];
         spaces = record { number = 0; access = shared } ∷ [];
+        owed = [];
       };
     }
     -- rule 7: a move into a space wakes a statement that waits there
@@ -804,8 +890,10 @@ table =
             ∷ [];
         tupleCount = 1;
         tuples = record { space = 1; values = value 1 2 ∷ [] } ∷ [];
+        newest = [];
         waiting = [];
         spaces = record { number = 0; access = shared } ∷ record { number = 1; access = shared } ∷ [];
+        owed = [];
       };
     }
     -- MS with kind 0, with kind 1, and without its kind byte: shared, private, shared, with the numbers 1, 2, 3
@@ -823,8 +911,10 @@ table =
             ∷ [];
         tupleCount = 0;
         tuples = [];
+        newest = [];
         waiting = [];
         spaces = record { number = 0; access = shared } ∷ record { number = 1; access = shared } ∷ record { number = 2; access = private 5 } ∷ record { number = 3; access = shared } ∷ [];
+        owed = [];
       };
     }
     -- DS closes a space with its tuples; its number is not used again, and names no open space (10)
@@ -848,8 +938,10 @@ table =
             ∷ [];
         tupleCount = 1;
         tuples = record { space = 0; values = value 1 2 ∷ [] } ∷ [];
+        newest = [];
         waiting = [];
         spaces = record { number = 0; access = shared } ∷ record { number = 2; access = shared } ∷ [];
+        owed = [];
       };
     }
     -- 3: `AG` alone, no bytes, an unknown mark, a size that is not 8 + length; nothing is taken, so 1 is next
@@ -871,8 +963,10 @@ table =
             ∷ [];
         tupleCount = 0;
         tuples = [];
+        newest = [];
         waiting = [];
         spaces = record { number = 0; access = shared } ∷ [];
+        owed = [];
       };
     }
     -- 4 and 5: position 0 and position 2 when fresh, a repeated record, a gap; 3 before 4, and 4 and 5 before 6
@@ -900,8 +994,10 @@ table =
             ∷ [];
         tupleCount = 0;
         tuples = [];
+        newest = [];
         waiting = [];
         spaces = record { number = 0; access = shared } ∷ [];
+        owed = [];
       };
     }
     -- 6: RV host 16, and other malformed bodies of RV, CR, MO, MS, DS; each is taken, with host 255, process 65535
@@ -951,8 +1047,10 @@ table =
             ∷ [];
         tupleCount = 0;
         tuples = [];
+        newest = [];
         waiting = [];
         spaces = record { number = 0; access = shared } ∷ [];
+        owed = [];
       };
     }
     -- 7: CR 3 when fresh, and any other record of a host not up, whatever later check it would fail
@@ -972,8 +1070,10 @@ table =
             ∷ [];
         tupleCount = 0;
         tuples = [];
+        newest = [];
         waiting = [];
         spaces = record { number = 0; access = shared } ∷ [];
+        owed = [];
       };
     }
     -- 8: RV 3 twice
@@ -987,8 +1087,10 @@ table =
             ∷ [];
         tupleCount = 0;
         tuples = [];
+        newest = [];
         waiting = [];
         spaces = record { number = 0; access = shared } ∷ [];
+        owed = [];
       };
     }
     -- 9: a process that waits, by MO (its MO meanwhile), MS, DS or AG and on any host; 7 before 9, 9 before 10 and 15
@@ -1016,8 +1118,10 @@ table =
             ∷ [];
         tupleCount = 0;
         tuples = [];
+        newest = [];
         waiting = 3 ∷ [];
         spaces = record { number = 0; access = shared } ∷ [];
+        owed = [];
       };
     }
     -- 10: out to 9, never opened; a space named by a branch that would not be chosen; a move to it; DS of it
@@ -1037,8 +1141,10 @@ table =
             ∷ [];
         tupleCount = 0;
         tuples = [];
+        newest = [];
         waiting = [];
         spaces = record { number = 0; access = shared } ∷ [];
+        owed = [];
       };
     }
     -- 10: 256 and 512 are not space 0, and 257 is not space 1: an out, a move's source, a copy's target, DS; nor are 261 and 65,535 open
@@ -1070,8 +1176,10 @@ table =
             ∷ [];
         tupleCount = 1;
         tuples = record { space = 0; values = value 1 1 ∷ [] } ∷ [];
+        newest = [];
         waiting = [];
         spaces = record { number = 0; access = shared } ∷ record { number = 1; access = shared } ∷ [];
+        owed = [];
       };
     }
     -- 11: process 6 in the private space of process 5, which 5 itself may use from another host; 10 over all operations before 11
@@ -1097,8 +1205,10 @@ table =
             ∷ [];
         tupleCount = 1;
         tuples = record { space = 1; values = value 1 1 ∷ [] } ∷ [];
+        newest = [];
         waiting = [];
         spaces = record { number = 0; access = shared } ∷ record { number = 1; access = private 5 } ∷ [];
+        owed = [];
       };
     }
     -- 12: out at 512; in then out at 512 is done; in then two outs is 12; a woken statement ends in 12 too
@@ -1128,41 +1238,10 @@ table =
             ∷ [];
         tupleCount = 512;
         tuples = record { space = 0; values = value 1 7 ∷ [] } ∷ record { space = 0; values = value 1 7 ∷ [] } ∷ record { space = 0; values = value 1 7 ∷ [] } ∷ record { space = 0; values = value 1 7 ∷ [] } ∷ record { space = 0; values = value 1 7 ∷ [] } ∷ record { space = 0; values = value 1 7 ∷ [] } ∷ record { space = 0; values = value 1 7 ∷ [] } ∷ record { space = 0; values = value 1 7 ∷ [] } ∷ [];
+        newest = record { space = 0; values = value 1 7 ∷ [] } ∷ record { space = 0; values = value 1 7 ∷ [] } ∷ record { space = 0; values = value 1 7 ∷ [] } ∷ record { space = 0; values = value 1 7 ∷ [] } ∷ record { space = 0; values = value 1 7 ∷ [] } ∷ record { space = 0; values = value 1 7 ∷ [] } ∷ record { space = 0; values = value 1 7 ∷ [] } ∷ record { space = 0; values = value 1 9 ∷ [] } ∷ [];
         waiting = [];
         spaces = record { number = 0; access = shared } ∷ [];
-      };
-    }
-    -- 12, by a crash: refused at 512 with one monitor, the host stays up and its statement waits; done at 511; 7 before 12
-    ∷ record {
-      stream = (82 ∷ 86 ∷ 0 ∷ 1 ∷ 0 ∷ 0 ∷ 0 ∷ 1 ∷ 2 ∷ [])
-          ∷ (77 ∷ 79 ∷ 0 ∷ 3 ∷ 0 ∷ 0 ∷ 0 ∷ 2 ∷ 2 ∷ 0 ∷ 5 ∷ [])
-          -- 128 tuples
-          ∷ (65 ∷ 71 ∷ 0 ∷ 58 ∷ 0 ∷ 0 ∷ 0 ∷ 3 ∷ 2 ∷ 0 ∷ 5 ∷ 1 ∷ 0 ∷ 8 ∷ 5 ∷ 0 ∷ 0 ∷ 1 ∷ 0 ∷ 1 ∷ 0 ∷ 0 ∷ 0 ∷ 7 ∷ 7 ∷ 0 ∷ 0 ∷ 0 ∷ 0 ∷ 0 ∷ 7 ∷ 0 ∷ 0 ∷ 0 ∷ 0 ∷ 0 ∷ 7 ∷ 0 ∷ 0 ∷ 0 ∷ 0 ∷ 0 ∷ 7 ∷ 0 ∷ 0 ∷ 0 ∷ 0 ∷ 0 ∷ 7 ∷ 0 ∷ 0 ∷ 0 ∷ 0 ∷ 0 ∷ 7 ∷ 0 ∷ 0 ∷ 0 ∷ 0 ∷ 0 ∷ 7 ∷ 0 ∷ 0 ∷ 0 ∷ 0 ∷ 0 ∷ [])
-          -- 512 tuples
-          ∷ (65 ∷ 71 ∷ 0 ∷ 18 ∷ 0 ∷ 0 ∷ 0 ∷ 4 ∷ 2 ∷ 0 ∷ 5 ∷ 1 ∷ 0 ∷ 2 ∷ 7 ∷ 0 ∷ 0 ∷ 0 ∷ 0 ∷ 0 ∷ 7 ∷ 0 ∷ 0 ∷ 0 ∷ 0 ∷ 0 ∷ [])
-          ∷ (65 ∷ 71 ∷ 0 ∷ 15 ∷ 0 ∷ 0 ∷ 0 ∷ 5 ∷ 2 ∷ 0 ∷ 6 ∷ 1 ∷ 1 ∷ 0 ∷ 0 ∷ 1 ∷ 0 ∷ 1 ∷ 0 ∷ 0 ∷ 0 ∷ 9 ∷ 0 ∷ [])
-          ∷ (67 ∷ 82 ∷ 0 ∷ 1 ∷ 0 ∷ 0 ∷ 0 ∷ 6 ∷ 2 ∷ [])
-          ∷ (67 ∷ 82 ∷ 0 ∷ 1 ∷ 0 ∷ 0 ∷ 0 ∷ 7 ∷ 3 ∷ [])
-          ∷ (77 ∷ 79 ∷ 0 ∷ 3 ∷ 0 ∷ 0 ∷ 0 ∷ 8 ∷ 2 ∷ 0 ∷ 6 ∷ [])
-          ∷ (65 ∷ 71 ∷ 0 ∷ 15 ∷ 0 ∷ 0 ∷ 0 ∷ 9 ∷ 2 ∷ 0 ∷ 5 ∷ 1 ∷ 1 ∷ 0 ∷ 0 ∷ 1 ∷ 0 ∷ 1 ∷ 0 ∷ 0 ∷ 0 ∷ 7 ∷ 0 ∷ [])
-          ∷ (67 ∷ 82 ∷ 0 ∷ 1 ∷ 0 ∷ 0 ∷ 0 ∷ 10 ∷ 2 ∷ [])
-          ∷ [];
-      shows = record {
-        answers = replies (82 ∷ 80 ∷ 0 ∷ 0 ∷ 0 ∷ 1 ∷ 2 ∷ 0 ∷ 0 ∷ 0 ∷ 0 ∷ 1 ∷ 0 ∷ 0 ∷ 0 ∷ 0 ∷ 0 ∷ 1 ∷ [])
-            ∷ replies (82 ∷ 80 ∷ 0 ∷ 0 ∷ 0 ∷ 2 ∷ 2 ∷ 0 ∷ 5 ∷ 0 ∷ 0 ∷ 1 ∷ 0 ∷ 0 ∷ 0 ∷ 0 ∷ 0 ∷ 1 ∷ [])
-            ∷ replies (82 ∷ 80 ∷ 0 ∷ 0 ∷ 0 ∷ 3 ∷ 2 ∷ 0 ∷ 5 ∷ 0 ∷ 1 ∷ 0 ∷ [])
-            ∷ replies (82 ∷ 80 ∷ 0 ∷ 0 ∷ 0 ∷ 4 ∷ 2 ∷ 0 ∷ 5 ∷ 0 ∷ 1 ∷ 0 ∷ [])
-            ∷ replies []
-            ∷ replies (82 ∷ 80 ∷ 0 ∷ 0 ∷ 0 ∷ 6 ∷ 2 ∷ 0 ∷ 0 ∷ 12 ∷ 0 ∷ 0 ∷ [])
-            ∷ replies (82 ∷ 80 ∷ 0 ∷ 0 ∷ 0 ∷ 7 ∷ 3 ∷ 0 ∷ 0 ∷ 7 ∷ 0 ∷ 0 ∷ [])
-            ∷ replies (82 ∷ 80 ∷ 0 ∷ 0 ∷ 0 ∷ 8 ∷ 2 ∷ 0 ∷ 6 ∷ 9 ∷ 0 ∷ 0 ∷ [])
-            ∷ replies (82 ∷ 80 ∷ 0 ∷ 0 ∷ 0 ∷ 9 ∷ 2 ∷ 0 ∷ 5 ∷ 0 ∷ 1 ∷ 0 ∷ [])
-            ∷ replies (82 ∷ 80 ∷ 0 ∷ 0 ∷ 0 ∷ 10 ∷ 2 ∷ 0 ∷ 0 ∷ 0 ∷ 0 ∷ 1 ∷ 0 ∷ 0 ∷ 0 ∷ 0 ∷ 0 ∷ 0 ∷ [])
-            ∷ [];
-        tupleCount = 512;
-        tuples = record { space = 0; values = value 1 7 ∷ [] } ∷ record { space = 0; values = value 1 7 ∷ [] } ∷ record { space = 0; values = value 1 7 ∷ [] } ∷ record { space = 0; values = value 1 7 ∷ [] } ∷ record { space = 0; values = value 1 7 ∷ [] } ∷ record { space = 0; values = value 1 7 ∷ [] } ∷ record { space = 0; values = value 1 7 ∷ [] } ∷ record { space = 0; values = value 1 7 ∷ [] } ∷ [];
-        waiting = [];
-        spaces = record { number = 0; access = shared } ∷ [];
+        owed = [];
       };
     }
     -- the first operation to fail decides, and within one 17 comes before 12: at 512, out off the range; out then in; in then out
@@ -1186,8 +1265,669 @@ table =
             ∷ [];
         tupleCount = 512;
         tuples = record { space = 0; values = value 0 2147483647 ∷ [] } ∷ record { space = 0; values = value 0 2147483647 ∷ [] } ∷ record { space = 0; values = value 0 2147483647 ∷ [] } ∷ record { space = 0; values = value 0 2147483647 ∷ [] } ∷ record { space = 0; values = value 0 2147483647 ∷ [] } ∷ record { space = 0; values = value 0 2147483647 ∷ [] } ∷ record { space = 0; values = value 0 2147483647 ∷ [] } ∷ record { space = 0; values = value 0 2147483647 ∷ [] } ∷ [];
+        newest = record { space = 0; values = value 0 2147483647 ∷ [] } ∷ record { space = 0; values = value 0 2147483647 ∷ [] } ∷ record { space = 0; values = value 0 2147483647 ∷ [] } ∷ record { space = 0; values = value 0 2147483647 ∷ [] } ∷ record { space = 0; values = value 0 2147483647 ∷ [] } ∷ record { space = 0; values = value 0 2147483647 ∷ [] } ∷ record { space = 0; values = value 0 2147483647 ∷ [] } ∷ record { space = 0; values = value 0 2147483647 ∷ [] } ∷ [];
         waiting = [];
         spaces = record { number = 0; access = shared } ∷ [];
+        owed = [];
+      };
+    }
+    -- a crash with room appends, also a tuple that is there already: crash, recovery and crash leave two equal ones
+    ∷ record {
+      stream = (82 ∷ 86 ∷ 0 ∷ 1 ∷ 0 ∷ 0 ∷ 0 ∷ 1 ∷ 2 ∷ [])
+          ∷ (82 ∷ 86 ∷ 0 ∷ 1 ∷ 0 ∷ 0 ∷ 0 ∷ 2 ∷ 3 ∷ [])
+          ∷ (77 ∷ 79 ∷ 0 ∷ 3 ∷ 0 ∷ 0 ∷ 0 ∷ 3 ∷ 2 ∷ 0 ∷ 5 ∷ [])
+          ∷ (67 ∷ 82 ∷ 0 ∷ 1 ∷ 0 ∷ 0 ∷ 0 ∷ 4 ∷ 3 ∷ [])
+          ∷ (82 ∷ 86 ∷ 0 ∷ 1 ∷ 0 ∷ 0 ∷ 0 ∷ 5 ∷ 3 ∷ [])
+          ∷ (67 ∷ 82 ∷ 0 ∷ 1 ∷ 0 ∷ 0 ∷ 0 ∷ 6 ∷ 3 ∷ [])
+          ∷ [];
+      shows = record {
+        answers = replies (82 ∷ 80 ∷ 0 ∷ 0 ∷ 0 ∷ 1 ∷ 2 ∷ 0 ∷ 0 ∷ 0 ∷ 0 ∷ 1 ∷ 0 ∷ 0 ∷ 0 ∷ 0 ∷ 0 ∷ 1 ∷ [])
+            ∷ replies (82 ∷ 80 ∷ 0 ∷ 0 ∷ 0 ∷ 2 ∷ 3 ∷ 0 ∷ 0 ∷ 0 ∷ 0 ∷ 1 ∷ 0 ∷ 0 ∷ 0 ∷ 0 ∷ 0 ∷ 2 ∷ [])
+            ∷ replies (82 ∷ 80 ∷ 0 ∷ 0 ∷ 0 ∷ 3 ∷ 2 ∷ 0 ∷ 5 ∷ 0 ∷ 0 ∷ 1 ∷ 0 ∷ 0 ∷ 0 ∷ 0 ∷ 0 ∷ 1 ∷ [])
+            ∷ replies (82 ∷ 80 ∷ 0 ∷ 0 ∷ 0 ∷ 4 ∷ 3 ∷ 0 ∷ 0 ∷ 0 ∷ 0 ∷ 1 ∷ 0 ∷ 0 ∷ 0 ∷ 0 ∷ 0 ∷ 1 ∷ [])
+            ∷ replies (82 ∷ 80 ∷ 0 ∷ 0 ∷ 0 ∷ 5 ∷ 3 ∷ 0 ∷ 0 ∷ 0 ∷ 0 ∷ 1 ∷ 0 ∷ 0 ∷ 0 ∷ 0 ∷ 0 ∷ 2 ∷ [])
+            ∷ replies (82 ∷ 80 ∷ 0 ∷ 0 ∷ 0 ∷ 6 ∷ 3 ∷ 0 ∷ 0 ∷ 0 ∷ 0 ∷ 1 ∷ 0 ∷ 0 ∷ 0 ∷ 0 ∷ 0 ∷ 1 ∷ [])
+            ∷ [];
+        tupleCount = 2;
+        tuples = record { space = 0; values = value 1 1 ∷ value 0 1 ∷ value 0 3 ∷ [] } ∷ record { space = 0; values = value 1 1 ∷ value 0 1 ∷ value 0 3 ∷ [] } ∷ [];
+        newest = [];
+        waiting = [];
+        spaces = record { number = 0; access = shared } ∷ [];
+        owed = [];
+      };
+    }
+    -- a crash at 512 with eight monitors is done, with the count of hosts up: its statement waits no more, all eight are owed; 6 and 7 are as before
+    ∷ record {
+      stream = (82 ∷ 86 ∷ 0 ∷ 1 ∷ 0 ∷ 0 ∷ 0 ∷ 1 ∷ 2 ∷ [])
+          ∷ (82 ∷ 86 ∷ 0 ∷ 1 ∷ 0 ∷ 0 ∷ 0 ∷ 2 ∷ 3 ∷ [])
+          ∷ (77 ∷ 79 ∷ 0 ∷ 3 ∷ 0 ∷ 0 ∷ 0 ∷ 3 ∷ 2 ∷ 0 ∷ 5 ∷ [])
+          ∷ (77 ∷ 79 ∷ 0 ∷ 3 ∷ 0 ∷ 0 ∷ 0 ∷ 4 ∷ 2 ∷ 0 ∷ 5 ∷ [])
+          ∷ (77 ∷ 79 ∷ 0 ∷ 3 ∷ 0 ∷ 0 ∷ 0 ∷ 5 ∷ 2 ∷ 0 ∷ 5 ∷ [])
+          ∷ (77 ∷ 79 ∷ 0 ∷ 3 ∷ 0 ∷ 0 ∷ 0 ∷ 6 ∷ 2 ∷ 0 ∷ 5 ∷ [])
+          ∷ (77 ∷ 79 ∷ 0 ∷ 3 ∷ 0 ∷ 0 ∷ 0 ∷ 7 ∷ 2 ∷ 0 ∷ 5 ∷ [])
+          ∷ (77 ∷ 79 ∷ 0 ∷ 3 ∷ 0 ∷ 0 ∷ 0 ∷ 8 ∷ 2 ∷ 0 ∷ 5 ∷ [])
+          ∷ (77 ∷ 79 ∷ 0 ∷ 3 ∷ 0 ∷ 0 ∷ 0 ∷ 9 ∷ 2 ∷ 0 ∷ 5 ∷ [])
+          ∷ (77 ∷ 79 ∷ 0 ∷ 3 ∷ 0 ∷ 0 ∷ 0 ∷ 10 ∷ 2 ∷ 0 ∷ 5 ∷ [])
+          ∷ (65 ∷ 71 ∷ 0 ∷ 15 ∷ 0 ∷ 0 ∷ 0 ∷ 11 ∷ 3 ∷ 0 ∷ 6 ∷ 1 ∷ 1 ∷ 0 ∷ 0 ∷ 1 ∷ 0 ∷ 1 ∷ 0 ∷ 0 ∷ 0 ∷ 9 ∷ 0 ∷ [])
+          -- 128 tuples
+          ∷ (65 ∷ 71 ∷ 0 ∷ 58 ∷ 0 ∷ 0 ∷ 0 ∷ 12 ∷ 2 ∷ 0 ∷ 5 ∷ 1 ∷ 0 ∷ 8 ∷ 5 ∷ 0 ∷ 0 ∷ 1 ∷ 0 ∷ 1 ∷ 0 ∷ 0 ∷ 0 ∷ 7 ∷ 7 ∷ 0 ∷ 0 ∷ 0 ∷ 0 ∷ 0 ∷ 7 ∷ 0 ∷ 0 ∷ 0 ∷ 0 ∷ 0 ∷ 7 ∷ 0 ∷ 0 ∷ 0 ∷ 0 ∷ 0 ∷ 7 ∷ 0 ∷ 0 ∷ 0 ∷ 0 ∷ 0 ∷ 7 ∷ 0 ∷ 0 ∷ 0 ∷ 0 ∷ 0 ∷ 7 ∷ 0 ∷ 0 ∷ 0 ∷ 0 ∷ 0 ∷ 7 ∷ 0 ∷ 0 ∷ 0 ∷ 0 ∷ 0 ∷ [])
+          -- 512 tuples
+          ∷ (65 ∷ 71 ∷ 0 ∷ 18 ∷ 0 ∷ 0 ∷ 0 ∷ 13 ∷ 2 ∷ 0 ∷ 5 ∷ 1 ∷ 0 ∷ 2 ∷ 7 ∷ 0 ∷ 0 ∷ 0 ∷ 0 ∷ 0 ∷ 7 ∷ 0 ∷ 0 ∷ 0 ∷ 0 ∷ 0 ∷ [])
+          ∷ (67 ∷ 82 ∷ 0 ∷ 1 ∷ 0 ∷ 0 ∷ 0 ∷ 14 ∷ 3 ∷ [])
+          -- not 9
+          ∷ (77 ∷ 79 ∷ 0 ∷ 3 ∷ 0 ∷ 0 ∷ 0 ∷ 15 ∷ 2 ∷ 0 ∷ 6 ∷ [])
+          ∷ (77 ∷ 79 ∷ 0 ∷ 3 ∷ 0 ∷ 0 ∷ 0 ∷ 16 ∷ 3 ∷ 0 ∷ 5 ∷ [])
+          ∷ (67 ∷ 82 ∷ 0 ∷ 1 ∷ 0 ∷ 0 ∷ 0 ∷ 17 ∷ 3 ∷ [])
+          ∷ (67 ∷ 82 ∷ 0 ∷ 1 ∷ 0 ∷ 0 ∷ 0 ∷ 18 ∷ 16 ∷ [])
+          ∷ [];
+      shows = record {
+        answers = replies (82 ∷ 80 ∷ 0 ∷ 0 ∷ 0 ∷ 1 ∷ 2 ∷ 0 ∷ 0 ∷ 0 ∷ 0 ∷ 1 ∷ 0 ∷ 0 ∷ 0 ∷ 0 ∷ 0 ∷ 1 ∷ [])
+            ∷ replies (82 ∷ 80 ∷ 0 ∷ 0 ∷ 0 ∷ 2 ∷ 3 ∷ 0 ∷ 0 ∷ 0 ∷ 0 ∷ 1 ∷ 0 ∷ 0 ∷ 0 ∷ 0 ∷ 0 ∷ 2 ∷ [])
+            ∷ replies (82 ∷ 80 ∷ 0 ∷ 0 ∷ 0 ∷ 3 ∷ 2 ∷ 0 ∷ 5 ∷ 0 ∷ 0 ∷ 1 ∷ 0 ∷ 0 ∷ 0 ∷ 0 ∷ 0 ∷ 1 ∷ [])
+            ∷ replies (82 ∷ 80 ∷ 0 ∷ 0 ∷ 0 ∷ 4 ∷ 2 ∷ 0 ∷ 5 ∷ 0 ∷ 0 ∷ 1 ∷ 0 ∷ 0 ∷ 0 ∷ 0 ∷ 0 ∷ 2 ∷ [])
+            ∷ replies (82 ∷ 80 ∷ 0 ∷ 0 ∷ 0 ∷ 5 ∷ 2 ∷ 0 ∷ 5 ∷ 0 ∷ 0 ∷ 1 ∷ 0 ∷ 0 ∷ 0 ∷ 0 ∷ 0 ∷ 3 ∷ [])
+            ∷ replies (82 ∷ 80 ∷ 0 ∷ 0 ∷ 0 ∷ 6 ∷ 2 ∷ 0 ∷ 5 ∷ 0 ∷ 0 ∷ 1 ∷ 0 ∷ 0 ∷ 0 ∷ 0 ∷ 0 ∷ 4 ∷ [])
+            ∷ replies (82 ∷ 80 ∷ 0 ∷ 0 ∷ 0 ∷ 7 ∷ 2 ∷ 0 ∷ 5 ∷ 0 ∷ 0 ∷ 1 ∷ 0 ∷ 0 ∷ 0 ∷ 0 ∷ 0 ∷ 5 ∷ [])
+            ∷ replies (82 ∷ 80 ∷ 0 ∷ 0 ∷ 0 ∷ 8 ∷ 2 ∷ 0 ∷ 5 ∷ 0 ∷ 0 ∷ 1 ∷ 0 ∷ 0 ∷ 0 ∷ 0 ∷ 0 ∷ 6 ∷ [])
+            ∷ replies (82 ∷ 80 ∷ 0 ∷ 0 ∷ 0 ∷ 9 ∷ 2 ∷ 0 ∷ 5 ∷ 0 ∷ 0 ∷ 1 ∷ 0 ∷ 0 ∷ 0 ∷ 0 ∷ 0 ∷ 7 ∷ [])
+            ∷ replies (82 ∷ 80 ∷ 0 ∷ 0 ∷ 0 ∷ 10 ∷ 2 ∷ 0 ∷ 5 ∷ 0 ∷ 0 ∷ 1 ∷ 0 ∷ 0 ∷ 0 ∷ 0 ∷ 0 ∷ 8 ∷ [])
+            ∷ replies []
+            ∷ replies (82 ∷ 80 ∷ 0 ∷ 0 ∷ 0 ∷ 12 ∷ 2 ∷ 0 ∷ 5 ∷ 0 ∷ 1 ∷ 0 ∷ [])
+            ∷ replies (82 ∷ 80 ∷ 0 ∷ 0 ∷ 0 ∷ 13 ∷ 2 ∷ 0 ∷ 5 ∷ 0 ∷ 1 ∷ 0 ∷ [])
+            ∷ replies (82 ∷ 80 ∷ 0 ∷ 0 ∷ 0 ∷ 14 ∷ 3 ∷ 0 ∷ 0 ∷ 0 ∷ 0 ∷ 1 ∷ 0 ∷ 0 ∷ 0 ∷ 0 ∷ 0 ∷ 1 ∷ [])
+            ∷ replies (82 ∷ 80 ∷ 0 ∷ 0 ∷ 0 ∷ 15 ∷ 2 ∷ 0 ∷ 6 ∷ 14 ∷ 0 ∷ 0 ∷ [])
+            ∷ replies (82 ∷ 80 ∷ 0 ∷ 0 ∷ 0 ∷ 16 ∷ 3 ∷ 0 ∷ 5 ∷ 7 ∷ 0 ∷ 0 ∷ [])
+            ∷ replies (82 ∷ 80 ∷ 0 ∷ 0 ∷ 0 ∷ 17 ∷ 3 ∷ 0 ∷ 0 ∷ 7 ∷ 0 ∷ 0 ∷ [])
+            ∷ replies (82 ∷ 80 ∷ 0 ∷ 0 ∷ 0 ∷ 18 ∷ 255 ∷ 255 ∷ 255 ∷ 6 ∷ 0 ∷ 0 ∷ [])
+            ∷ [];
+        tupleCount = 512;
+        tuples = record { space = 0; values = value 1 7 ∷ [] } ∷ record { space = 0; values = value 1 7 ∷ [] } ∷ record { space = 0; values = value 1 7 ∷ [] } ∷ record { space = 0; values = value 1 7 ∷ [] } ∷ record { space = 0; values = value 1 7 ∷ [] } ∷ record { space = 0; values = value 1 7 ∷ [] } ∷ record { space = 0; values = value 1 7 ∷ [] } ∷ record { space = 0; values = value 1 7 ∷ [] } ∷ [];
+        newest = record { space = 0; values = value 1 7 ∷ [] } ∷ record { space = 0; values = value 1 7 ∷ [] } ∷ record { space = 0; values = value 1 7 ∷ [] } ∷ record { space = 0; values = value 1 7 ∷ [] } ∷ record { space = 0; values = value 1 7 ∷ [] } ∷ record { space = 0; values = value 1 7 ∷ [] } ∷ record { space = 0; values = value 1 7 ∷ [] } ∷ record { space = 0; values = value 1 7 ∷ [] } ∷ [];
+        waiting = [];
+        spaces = record { number = 0; access = shared } ∷ [];
+        owed = (1, 3) ∷ (2, 3) ∷ (3, 3) ∷ (4, 3) ∷ (5, 3) ∷ (6, 3) ∷ (7, 3) ∷ (8, 3) ∷ [];
+      };
+    }
+    -- a crash at 510 with eight monitors: in rising order two are appended, six are owed
+    ∷ record {
+      stream = (82 ∷ 86 ∷ 0 ∷ 1 ∷ 0 ∷ 0 ∷ 0 ∷ 1 ∷ 2 ∷ [])
+          ∷ (82 ∷ 86 ∷ 0 ∷ 1 ∷ 0 ∷ 0 ∷ 0 ∷ 2 ∷ 3 ∷ [])
+          ∷ (77 ∷ 79 ∷ 0 ∷ 3 ∷ 0 ∷ 0 ∷ 0 ∷ 3 ∷ 2 ∷ 0 ∷ 5 ∷ [])
+          ∷ (77 ∷ 79 ∷ 0 ∷ 3 ∷ 0 ∷ 0 ∷ 0 ∷ 4 ∷ 2 ∷ 0 ∷ 5 ∷ [])
+          ∷ (77 ∷ 79 ∷ 0 ∷ 3 ∷ 0 ∷ 0 ∷ 0 ∷ 5 ∷ 2 ∷ 0 ∷ 5 ∷ [])
+          ∷ (77 ∷ 79 ∷ 0 ∷ 3 ∷ 0 ∷ 0 ∷ 0 ∷ 6 ∷ 2 ∷ 0 ∷ 5 ∷ [])
+          ∷ (77 ∷ 79 ∷ 0 ∷ 3 ∷ 0 ∷ 0 ∷ 0 ∷ 7 ∷ 2 ∷ 0 ∷ 5 ∷ [])
+          ∷ (77 ∷ 79 ∷ 0 ∷ 3 ∷ 0 ∷ 0 ∷ 0 ∷ 8 ∷ 2 ∷ 0 ∷ 5 ∷ [])
+          ∷ (77 ∷ 79 ∷ 0 ∷ 3 ∷ 0 ∷ 0 ∷ 0 ∷ 9 ∷ 2 ∷ 0 ∷ 5 ∷ [])
+          ∷ (77 ∷ 79 ∷ 0 ∷ 3 ∷ 0 ∷ 0 ∷ 0 ∷ 10 ∷ 2 ∷ 0 ∷ 5 ∷ [])
+          -- 128 tuples
+          ∷ (65 ∷ 71 ∷ 0 ∷ 58 ∷ 0 ∷ 0 ∷ 0 ∷ 11 ∷ 2 ∷ 0 ∷ 5 ∷ 1 ∷ 0 ∷ 8 ∷ 5 ∷ 0 ∷ 0 ∷ 1 ∷ 0 ∷ 1 ∷ 0 ∷ 0 ∷ 0 ∷ 7 ∷ 7 ∷ 0 ∷ 0 ∷ 0 ∷ 0 ∷ 0 ∷ 7 ∷ 0 ∷ 0 ∷ 0 ∷ 0 ∷ 0 ∷ 7 ∷ 0 ∷ 0 ∷ 0 ∷ 0 ∷ 0 ∷ 7 ∷ 0 ∷ 0 ∷ 0 ∷ 0 ∷ 0 ∷ 7 ∷ 0 ∷ 0 ∷ 0 ∷ 0 ∷ 0 ∷ 7 ∷ 0 ∷ 0 ∷ 0 ∷ 0 ∷ 0 ∷ 7 ∷ 0 ∷ 0 ∷ 0 ∷ 0 ∷ 0 ∷ [])
+          -- 512 tuples
+          ∷ (65 ∷ 71 ∷ 0 ∷ 18 ∷ 0 ∷ 0 ∷ 0 ∷ 12 ∷ 2 ∷ 0 ∷ 5 ∷ 1 ∷ 0 ∷ 2 ∷ 7 ∷ 0 ∷ 0 ∷ 0 ∷ 0 ∷ 0 ∷ 7 ∷ 0 ∷ 0 ∷ 0 ∷ 0 ∷ 0 ∷ [])
+          ∷ (65 ∷ 71 ∷ 0 ∷ 25 ∷ 0 ∷ 0 ∷ 0 ∷ 13 ∷ 2 ∷ 0 ∷ 5 ∷ 1 ∷ 1 ∷ 0 ∷ 0 ∷ 1 ∷ 0 ∷ 1 ∷ 0 ∷ 0 ∷ 0 ∷ 7 ∷ 1 ∷ 1 ∷ 0 ∷ 0 ∷ 1 ∷ 0 ∷ 1 ∷ 0 ∷ 0 ∷ 0 ∷ 7 ∷ [])
+          ∷ (67 ∷ 82 ∷ 0 ∷ 1 ∷ 0 ∷ 0 ∷ 0 ∷ 14 ∷ 3 ∷ [])
+          ∷ [];
+      shows = record {
+        answers = replies (82 ∷ 80 ∷ 0 ∷ 0 ∷ 0 ∷ 1 ∷ 2 ∷ 0 ∷ 0 ∷ 0 ∷ 0 ∷ 1 ∷ 0 ∷ 0 ∷ 0 ∷ 0 ∷ 0 ∷ 1 ∷ [])
+            ∷ replies (82 ∷ 80 ∷ 0 ∷ 0 ∷ 0 ∷ 2 ∷ 3 ∷ 0 ∷ 0 ∷ 0 ∷ 0 ∷ 1 ∷ 0 ∷ 0 ∷ 0 ∷ 0 ∷ 0 ∷ 2 ∷ [])
+            ∷ replies (82 ∷ 80 ∷ 0 ∷ 0 ∷ 0 ∷ 3 ∷ 2 ∷ 0 ∷ 5 ∷ 0 ∷ 0 ∷ 1 ∷ 0 ∷ 0 ∷ 0 ∷ 0 ∷ 0 ∷ 1 ∷ [])
+            ∷ replies (82 ∷ 80 ∷ 0 ∷ 0 ∷ 0 ∷ 4 ∷ 2 ∷ 0 ∷ 5 ∷ 0 ∷ 0 ∷ 1 ∷ 0 ∷ 0 ∷ 0 ∷ 0 ∷ 0 ∷ 2 ∷ [])
+            ∷ replies (82 ∷ 80 ∷ 0 ∷ 0 ∷ 0 ∷ 5 ∷ 2 ∷ 0 ∷ 5 ∷ 0 ∷ 0 ∷ 1 ∷ 0 ∷ 0 ∷ 0 ∷ 0 ∷ 0 ∷ 3 ∷ [])
+            ∷ replies (82 ∷ 80 ∷ 0 ∷ 0 ∷ 0 ∷ 6 ∷ 2 ∷ 0 ∷ 5 ∷ 0 ∷ 0 ∷ 1 ∷ 0 ∷ 0 ∷ 0 ∷ 0 ∷ 0 ∷ 4 ∷ [])
+            ∷ replies (82 ∷ 80 ∷ 0 ∷ 0 ∷ 0 ∷ 7 ∷ 2 ∷ 0 ∷ 5 ∷ 0 ∷ 0 ∷ 1 ∷ 0 ∷ 0 ∷ 0 ∷ 0 ∷ 0 ∷ 5 ∷ [])
+            ∷ replies (82 ∷ 80 ∷ 0 ∷ 0 ∷ 0 ∷ 8 ∷ 2 ∷ 0 ∷ 5 ∷ 0 ∷ 0 ∷ 1 ∷ 0 ∷ 0 ∷ 0 ∷ 0 ∷ 0 ∷ 6 ∷ [])
+            ∷ replies (82 ∷ 80 ∷ 0 ∷ 0 ∷ 0 ∷ 9 ∷ 2 ∷ 0 ∷ 5 ∷ 0 ∷ 0 ∷ 1 ∷ 0 ∷ 0 ∷ 0 ∷ 0 ∷ 0 ∷ 7 ∷ [])
+            ∷ replies (82 ∷ 80 ∷ 0 ∷ 0 ∷ 0 ∷ 10 ∷ 2 ∷ 0 ∷ 5 ∷ 0 ∷ 0 ∷ 1 ∷ 0 ∷ 0 ∷ 0 ∷ 0 ∷ 0 ∷ 8 ∷ [])
+            ∷ replies (82 ∷ 80 ∷ 0 ∷ 0 ∷ 0 ∷ 11 ∷ 2 ∷ 0 ∷ 5 ∷ 0 ∷ 1 ∷ 0 ∷ [])
+            ∷ replies (82 ∷ 80 ∷ 0 ∷ 0 ∷ 0 ∷ 12 ∷ 2 ∷ 0 ∷ 5 ∷ 0 ∷ 1 ∷ 0 ∷ [])
+            ∷ replies (82 ∷ 80 ∷ 0 ∷ 0 ∷ 0 ∷ 13 ∷ 2 ∷ 0 ∷ 5 ∷ 0 ∷ 1 ∷ 0 ∷ [])
+            ∷ replies (82 ∷ 80 ∷ 0 ∷ 0 ∷ 0 ∷ 14 ∷ 3 ∷ 0 ∷ 0 ∷ 0 ∷ 0 ∷ 1 ∷ 0 ∷ 0 ∷ 0 ∷ 0 ∷ 0 ∷ 1 ∷ [])
+            ∷ [];
+        tupleCount = 512;
+        tuples = record { space = 0; values = value 1 7 ∷ [] } ∷ record { space = 0; values = value 1 7 ∷ [] } ∷ record { space = 0; values = value 1 7 ∷ [] } ∷ record { space = 0; values = value 1 7 ∷ [] } ∷ record { space = 0; values = value 1 7 ∷ [] } ∷ record { space = 0; values = value 1 7 ∷ [] } ∷ record { space = 0; values = value 1 7 ∷ [] } ∷ record { space = 0; values = value 1 7 ∷ [] } ∷ [];
+        newest = record { space = 0; values = value 1 7 ∷ [] } ∷ record { space = 0; values = value 1 7 ∷ [] } ∷ record { space = 0; values = value 1 7 ∷ [] } ∷ record { space = 0; values = value 1 7 ∷ [] } ∷ record { space = 0; values = value 1 7 ∷ [] } ∷ record { space = 0; values = value 1 7 ∷ [] } ∷ record { space = 0; values = value 1 1 ∷ value 0 1 ∷ value 0 3 ∷ [] } ∷ record { space = 0; values = value 1 1 ∷ value 0 2 ∷ value 0 3 ∷ [] } ∷ [];
+        waiting = [];
+        spaces = record { number = 0; access = shared } ∷ [];
+        owed = (3, 3) ∷ (4, 3) ∷ (5, 3) ∷ (6, 3) ∷ (7, 3) ∷ (8, 3) ∷ [];
+      };
+    }
+    -- recovery of the host does not cancel the debt; of the number that MO gives meanwhile nothing is owed
+    ∷ record {
+      stream = (82 ∷ 86 ∷ 0 ∷ 1 ∷ 0 ∷ 0 ∷ 0 ∷ 1 ∷ 2 ∷ [])
+          ∷ (82 ∷ 86 ∷ 0 ∷ 1 ∷ 0 ∷ 0 ∷ 0 ∷ 2 ∷ 3 ∷ [])
+          ∷ (77 ∷ 79 ∷ 0 ∷ 3 ∷ 0 ∷ 0 ∷ 0 ∷ 3 ∷ 2 ∷ 0 ∷ 5 ∷ [])
+          -- 128 tuples
+          ∷ (65 ∷ 71 ∷ 0 ∷ 58 ∷ 0 ∷ 0 ∷ 0 ∷ 4 ∷ 2 ∷ 0 ∷ 5 ∷ 1 ∷ 0 ∷ 8 ∷ 5 ∷ 0 ∷ 0 ∷ 1 ∷ 0 ∷ 1 ∷ 0 ∷ 0 ∷ 0 ∷ 7 ∷ 7 ∷ 0 ∷ 0 ∷ 0 ∷ 0 ∷ 0 ∷ 7 ∷ 0 ∷ 0 ∷ 0 ∷ 0 ∷ 0 ∷ 7 ∷ 0 ∷ 0 ∷ 0 ∷ 0 ∷ 0 ∷ 7 ∷ 0 ∷ 0 ∷ 0 ∷ 0 ∷ 0 ∷ 7 ∷ 0 ∷ 0 ∷ 0 ∷ 0 ∷ 0 ∷ 7 ∷ 0 ∷ 0 ∷ 0 ∷ 0 ∷ 0 ∷ 7 ∷ 0 ∷ 0 ∷ 0 ∷ 0 ∷ 0 ∷ [])
+          -- 512 tuples
+          ∷ (65 ∷ 71 ∷ 0 ∷ 18 ∷ 0 ∷ 0 ∷ 0 ∷ 5 ∷ 2 ∷ 0 ∷ 5 ∷ 1 ∷ 0 ∷ 2 ∷ 7 ∷ 0 ∷ 0 ∷ 0 ∷ 0 ∷ 0 ∷ 7 ∷ 0 ∷ 0 ∷ 0 ∷ 0 ∷ 0 ∷ [])
+          ∷ (67 ∷ 82 ∷ 0 ∷ 1 ∷ 0 ∷ 0 ∷ 0 ∷ 6 ∷ 3 ∷ [])
+          ∷ (77 ∷ 79 ∷ 0 ∷ 3 ∷ 0 ∷ 0 ∷ 0 ∷ 7 ∷ 2 ∷ 0 ∷ 5 ∷ [])
+          ∷ (82 ∷ 86 ∷ 0 ∷ 1 ∷ 0 ∷ 0 ∷ 0 ∷ 8 ∷ 3 ∷ [])
+          ∷ [];
+      shows = record {
+        answers = replies (82 ∷ 80 ∷ 0 ∷ 0 ∷ 0 ∷ 1 ∷ 2 ∷ 0 ∷ 0 ∷ 0 ∷ 0 ∷ 1 ∷ 0 ∷ 0 ∷ 0 ∷ 0 ∷ 0 ∷ 1 ∷ [])
+            ∷ replies (82 ∷ 80 ∷ 0 ∷ 0 ∷ 0 ∷ 2 ∷ 3 ∷ 0 ∷ 0 ∷ 0 ∷ 0 ∷ 1 ∷ 0 ∷ 0 ∷ 0 ∷ 0 ∷ 0 ∷ 2 ∷ [])
+            ∷ replies (82 ∷ 80 ∷ 0 ∷ 0 ∷ 0 ∷ 3 ∷ 2 ∷ 0 ∷ 5 ∷ 0 ∷ 0 ∷ 1 ∷ 0 ∷ 0 ∷ 0 ∷ 0 ∷ 0 ∷ 1 ∷ [])
+            ∷ replies (82 ∷ 80 ∷ 0 ∷ 0 ∷ 0 ∷ 4 ∷ 2 ∷ 0 ∷ 5 ∷ 0 ∷ 1 ∷ 0 ∷ [])
+            ∷ replies (82 ∷ 80 ∷ 0 ∷ 0 ∷ 0 ∷ 5 ∷ 2 ∷ 0 ∷ 5 ∷ 0 ∷ 1 ∷ 0 ∷ [])
+            ∷ replies (82 ∷ 80 ∷ 0 ∷ 0 ∷ 0 ∷ 6 ∷ 3 ∷ 0 ∷ 0 ∷ 0 ∷ 0 ∷ 1 ∷ 0 ∷ 0 ∷ 0 ∷ 0 ∷ 0 ∷ 1 ∷ [])
+            ∷ replies (82 ∷ 80 ∷ 0 ∷ 0 ∷ 0 ∷ 7 ∷ 2 ∷ 0 ∷ 5 ∷ 0 ∷ 0 ∷ 1 ∷ 0 ∷ 0 ∷ 0 ∷ 0 ∷ 0 ∷ 2 ∷ [])
+            ∷ replies (82 ∷ 80 ∷ 0 ∷ 0 ∷ 0 ∷ 8 ∷ 3 ∷ 0 ∷ 0 ∷ 0 ∷ 0 ∷ 1 ∷ 0 ∷ 0 ∷ 0 ∷ 0 ∷ 0 ∷ 2 ∷ [])
+            ∷ [];
+        tupleCount = 512;
+        tuples = record { space = 0; values = value 1 7 ∷ [] } ∷ record { space = 0; values = value 1 7 ∷ [] } ∷ record { space = 0; values = value 1 7 ∷ [] } ∷ record { space = 0; values = value 1 7 ∷ [] } ∷ record { space = 0; values = value 1 7 ∷ [] } ∷ record { space = 0; values = value 1 7 ∷ [] } ∷ record { space = 0; values = value 1 7 ∷ [] } ∷ record { space = 0; values = value 1 7 ∷ [] } ∷ [];
+        newest = record { space = 0; values = value 1 7 ∷ [] } ∷ record { space = 0; values = value 1 7 ∷ [] } ∷ record { space = 0; values = value 1 7 ∷ [] } ∷ record { space = 0; values = value 1 7 ∷ [] } ∷ record { space = 0; values = value 1 7 ∷ [] } ∷ record { space = 0; values = value 1 7 ∷ [] } ∷ record { space = 0; values = value 1 7 ∷ [] } ∷ record { space = 0; values = value 1 7 ∷ [] } ∷ [];
+        waiting = [];
+        spaces = record { number = 0; access = shared } ∷ [];
+        owed = (1, 3) ∷ [];
+      };
+    }
+    -- crash, recovery and crash at 512: each pair is owed once, so room for three is filled by two
+    ∷ record {
+      stream = (82 ∷ 86 ∷ 0 ∷ 1 ∷ 0 ∷ 0 ∷ 0 ∷ 1 ∷ 2 ∷ [])
+          ∷ (82 ∷ 86 ∷ 0 ∷ 1 ∷ 0 ∷ 0 ∷ 0 ∷ 2 ∷ 3 ∷ [])
+          ∷ (77 ∷ 79 ∷ 0 ∷ 3 ∷ 0 ∷ 0 ∷ 0 ∷ 3 ∷ 2 ∷ 0 ∷ 5 ∷ [])
+          ∷ (77 ∷ 79 ∷ 0 ∷ 3 ∷ 0 ∷ 0 ∷ 0 ∷ 4 ∷ 2 ∷ 0 ∷ 5 ∷ [])
+          -- 128 tuples
+          ∷ (65 ∷ 71 ∷ 0 ∷ 58 ∷ 0 ∷ 0 ∷ 0 ∷ 5 ∷ 2 ∷ 0 ∷ 5 ∷ 1 ∷ 0 ∷ 8 ∷ 5 ∷ 0 ∷ 0 ∷ 1 ∷ 0 ∷ 1 ∷ 0 ∷ 0 ∷ 0 ∷ 7 ∷ 7 ∷ 0 ∷ 0 ∷ 0 ∷ 0 ∷ 0 ∷ 7 ∷ 0 ∷ 0 ∷ 0 ∷ 0 ∷ 0 ∷ 7 ∷ 0 ∷ 0 ∷ 0 ∷ 0 ∷ 0 ∷ 7 ∷ 0 ∷ 0 ∷ 0 ∷ 0 ∷ 0 ∷ 7 ∷ 0 ∷ 0 ∷ 0 ∷ 0 ∷ 0 ∷ 7 ∷ 0 ∷ 0 ∷ 0 ∷ 0 ∷ 0 ∷ 7 ∷ 0 ∷ 0 ∷ 0 ∷ 0 ∷ 0 ∷ [])
+          -- 512 tuples
+          ∷ (65 ∷ 71 ∷ 0 ∷ 18 ∷ 0 ∷ 0 ∷ 0 ∷ 6 ∷ 2 ∷ 0 ∷ 5 ∷ 1 ∷ 0 ∷ 2 ∷ 7 ∷ 0 ∷ 0 ∷ 0 ∷ 0 ∷ 0 ∷ 7 ∷ 0 ∷ 0 ∷ 0 ∷ 0 ∷ 0 ∷ [])
+          ∷ (67 ∷ 82 ∷ 0 ∷ 1 ∷ 0 ∷ 0 ∷ 0 ∷ 7 ∷ 3 ∷ [])
+          ∷ (82 ∷ 86 ∷ 0 ∷ 1 ∷ 0 ∷ 0 ∷ 0 ∷ 8 ∷ 3 ∷ [])
+          ∷ (67 ∷ 82 ∷ 0 ∷ 1 ∷ 0 ∷ 0 ∷ 0 ∷ 9 ∷ 3 ∷ [])
+          ∷ (65 ∷ 71 ∷ 0 ∷ 35 ∷ 0 ∷ 0 ∷ 0 ∷ 10 ∷ 2 ∷ 0 ∷ 5 ∷ 1 ∷ 1 ∷ 0 ∷ 0 ∷ 1 ∷ 0 ∷ 1 ∷ 0 ∷ 0 ∷ 0 ∷ 7 ∷ 2 ∷ 1 ∷ 0 ∷ 0 ∷ 1 ∷ 0 ∷ 1 ∷ 0 ∷ 0 ∷ 0 ∷ 7 ∷ 1 ∷ 0 ∷ 0 ∷ 1 ∷ 0 ∷ 1 ∷ 0 ∷ 0 ∷ 0 ∷ 7 ∷ [])
+          ∷ [];
+      shows = record {
+        answers = replies (82 ∷ 80 ∷ 0 ∷ 0 ∷ 0 ∷ 1 ∷ 2 ∷ 0 ∷ 0 ∷ 0 ∷ 0 ∷ 1 ∷ 0 ∷ 0 ∷ 0 ∷ 0 ∷ 0 ∷ 1 ∷ [])
+            ∷ replies (82 ∷ 80 ∷ 0 ∷ 0 ∷ 0 ∷ 2 ∷ 3 ∷ 0 ∷ 0 ∷ 0 ∷ 0 ∷ 1 ∷ 0 ∷ 0 ∷ 0 ∷ 0 ∷ 0 ∷ 2 ∷ [])
+            ∷ replies (82 ∷ 80 ∷ 0 ∷ 0 ∷ 0 ∷ 3 ∷ 2 ∷ 0 ∷ 5 ∷ 0 ∷ 0 ∷ 1 ∷ 0 ∷ 0 ∷ 0 ∷ 0 ∷ 0 ∷ 1 ∷ [])
+            ∷ replies (82 ∷ 80 ∷ 0 ∷ 0 ∷ 0 ∷ 4 ∷ 2 ∷ 0 ∷ 5 ∷ 0 ∷ 0 ∷ 1 ∷ 0 ∷ 0 ∷ 0 ∷ 0 ∷ 0 ∷ 2 ∷ [])
+            ∷ replies (82 ∷ 80 ∷ 0 ∷ 0 ∷ 0 ∷ 5 ∷ 2 ∷ 0 ∷ 5 ∷ 0 ∷ 1 ∷ 0 ∷ [])
+            ∷ replies (82 ∷ 80 ∷ 0 ∷ 0 ∷ 0 ∷ 6 ∷ 2 ∷ 0 ∷ 5 ∷ 0 ∷ 1 ∷ 0 ∷ [])
+            ∷ replies (82 ∷ 80 ∷ 0 ∷ 0 ∷ 0 ∷ 7 ∷ 3 ∷ 0 ∷ 0 ∷ 0 ∷ 0 ∷ 1 ∷ 0 ∷ 0 ∷ 0 ∷ 0 ∷ 0 ∷ 1 ∷ [])
+            ∷ replies (82 ∷ 80 ∷ 0 ∷ 0 ∷ 0 ∷ 8 ∷ 3 ∷ 0 ∷ 0 ∷ 0 ∷ 0 ∷ 1 ∷ 0 ∷ 0 ∷ 0 ∷ 0 ∷ 0 ∷ 2 ∷ [])
+            ∷ replies (82 ∷ 80 ∷ 0 ∷ 0 ∷ 0 ∷ 9 ∷ 3 ∷ 0 ∷ 0 ∷ 0 ∷ 0 ∷ 1 ∷ 0 ∷ 0 ∷ 0 ∷ 0 ∷ 0 ∷ 1 ∷ [])
+            ∷ replies (82 ∷ 80 ∷ 0 ∷ 0 ∷ 0 ∷ 10 ∷ 2 ∷ 0 ∷ 5 ∷ 0 ∷ 1 ∷ 0 ∷ [])
+            ∷ [];
+        tupleCount = 511;
+        tuples = record { space = 0; values = value 1 7 ∷ [] } ∷ record { space = 0; values = value 1 7 ∷ [] } ∷ record { space = 0; values = value 1 7 ∷ [] } ∷ record { space = 0; values = value 1 7 ∷ [] } ∷ record { space = 0; values = value 1 7 ∷ [] } ∷ record { space = 0; values = value 1 7 ∷ [] } ∷ record { space = 0; values = value 1 7 ∷ [] } ∷ record { space = 0; values = value 1 7 ∷ [] } ∷ [];
+        newest = record { space = 0; values = value 1 7 ∷ [] } ∷ record { space = 0; values = value 1 7 ∷ [] } ∷ record { space = 0; values = value 1 7 ∷ [] } ∷ record { space = 0; values = value 1 7 ∷ [] } ∷ record { space = 0; values = value 1 7 ∷ [] } ∷ record { space = 0; values = value 1 7 ∷ [] } ∷ record { space = 0; values = value 1 1 ∷ value 0 1 ∷ value 0 3 ∷ [] } ∷ record { space = 0; values = value 1 1 ∷ value 0 2 ∷ value 0 3 ∷ [] } ∷ [];
+        waiting = [];
+        spaces = record { number = 0; access = shared } ∷ [];
+        owed = [];
+      };
+    }
+    -- a pair is owed also where an equal tuple is there: a crash at 511, recovery, a crash at 512; then it is laid beside the first
+    ∷ record {
+      stream = (82 ∷ 86 ∷ 0 ∷ 1 ∷ 0 ∷ 0 ∷ 0 ∷ 1 ∷ 2 ∷ [])
+          ∷ (82 ∷ 86 ∷ 0 ∷ 1 ∷ 0 ∷ 0 ∷ 0 ∷ 2 ∷ 3 ∷ [])
+          ∷ (77 ∷ 79 ∷ 0 ∷ 3 ∷ 0 ∷ 0 ∷ 0 ∷ 3 ∷ 2 ∷ 0 ∷ 5 ∷ [])
+          -- 128 tuples
+          ∷ (65 ∷ 71 ∷ 0 ∷ 58 ∷ 0 ∷ 0 ∷ 0 ∷ 4 ∷ 2 ∷ 0 ∷ 5 ∷ 1 ∷ 0 ∷ 8 ∷ 5 ∷ 0 ∷ 0 ∷ 1 ∷ 0 ∷ 1 ∷ 0 ∷ 0 ∷ 0 ∷ 7 ∷ 7 ∷ 0 ∷ 0 ∷ 0 ∷ 0 ∷ 0 ∷ 7 ∷ 0 ∷ 0 ∷ 0 ∷ 0 ∷ 0 ∷ 7 ∷ 0 ∷ 0 ∷ 0 ∷ 0 ∷ 0 ∷ 7 ∷ 0 ∷ 0 ∷ 0 ∷ 0 ∷ 0 ∷ 7 ∷ 0 ∷ 0 ∷ 0 ∷ 0 ∷ 0 ∷ 7 ∷ 0 ∷ 0 ∷ 0 ∷ 0 ∷ 0 ∷ 7 ∷ 0 ∷ 0 ∷ 0 ∷ 0 ∷ 0 ∷ [])
+          -- 512 tuples
+          ∷ (65 ∷ 71 ∷ 0 ∷ 18 ∷ 0 ∷ 0 ∷ 0 ∷ 5 ∷ 2 ∷ 0 ∷ 5 ∷ 1 ∷ 0 ∷ 2 ∷ 7 ∷ 0 ∷ 0 ∷ 0 ∷ 0 ∷ 0 ∷ 7 ∷ 0 ∷ 0 ∷ 0 ∷ 0 ∷ 0 ∷ [])
+          ∷ (65 ∷ 71 ∷ 0 ∷ 15 ∷ 0 ∷ 0 ∷ 0 ∷ 6 ∷ 2 ∷ 0 ∷ 5 ∷ 1 ∷ 1 ∷ 0 ∷ 0 ∷ 1 ∷ 0 ∷ 1 ∷ 0 ∷ 0 ∷ 0 ∷ 7 ∷ 0 ∷ [])
+          ∷ (67 ∷ 82 ∷ 0 ∷ 1 ∷ 0 ∷ 0 ∷ 0 ∷ 7 ∷ 3 ∷ [])
+          ∷ (82 ∷ 86 ∷ 0 ∷ 1 ∷ 0 ∷ 0 ∷ 0 ∷ 8 ∷ 3 ∷ [])
+          ∷ (67 ∷ 82 ∷ 0 ∷ 1 ∷ 0 ∷ 0 ∷ 0 ∷ 9 ∷ 3 ∷ [])
+          ∷ (65 ∷ 71 ∷ 0 ∷ 15 ∷ 0 ∷ 0 ∷ 0 ∷ 10 ∷ 2 ∷ 0 ∷ 5 ∷ 1 ∷ 1 ∷ 0 ∷ 0 ∷ 1 ∷ 0 ∷ 1 ∷ 0 ∷ 0 ∷ 0 ∷ 7 ∷ 0 ∷ [])
+          ∷ [];
+      shows = record {
+        answers = replies (82 ∷ 80 ∷ 0 ∷ 0 ∷ 0 ∷ 1 ∷ 2 ∷ 0 ∷ 0 ∷ 0 ∷ 0 ∷ 1 ∷ 0 ∷ 0 ∷ 0 ∷ 0 ∷ 0 ∷ 1 ∷ [])
+            ∷ replies (82 ∷ 80 ∷ 0 ∷ 0 ∷ 0 ∷ 2 ∷ 3 ∷ 0 ∷ 0 ∷ 0 ∷ 0 ∷ 1 ∷ 0 ∷ 0 ∷ 0 ∷ 0 ∷ 0 ∷ 2 ∷ [])
+            ∷ replies (82 ∷ 80 ∷ 0 ∷ 0 ∷ 0 ∷ 3 ∷ 2 ∷ 0 ∷ 5 ∷ 0 ∷ 0 ∷ 1 ∷ 0 ∷ 0 ∷ 0 ∷ 0 ∷ 0 ∷ 1 ∷ [])
+            ∷ replies (82 ∷ 80 ∷ 0 ∷ 0 ∷ 0 ∷ 4 ∷ 2 ∷ 0 ∷ 5 ∷ 0 ∷ 1 ∷ 0 ∷ [])
+            ∷ replies (82 ∷ 80 ∷ 0 ∷ 0 ∷ 0 ∷ 5 ∷ 2 ∷ 0 ∷ 5 ∷ 0 ∷ 1 ∷ 0 ∷ [])
+            ∷ replies (82 ∷ 80 ∷ 0 ∷ 0 ∷ 0 ∷ 6 ∷ 2 ∷ 0 ∷ 5 ∷ 0 ∷ 1 ∷ 0 ∷ [])
+            ∷ replies (82 ∷ 80 ∷ 0 ∷ 0 ∷ 0 ∷ 7 ∷ 3 ∷ 0 ∷ 0 ∷ 0 ∷ 0 ∷ 1 ∷ 0 ∷ 0 ∷ 0 ∷ 0 ∷ 0 ∷ 1 ∷ [])
+            ∷ replies (82 ∷ 80 ∷ 0 ∷ 0 ∷ 0 ∷ 8 ∷ 3 ∷ 0 ∷ 0 ∷ 0 ∷ 0 ∷ 1 ∷ 0 ∷ 0 ∷ 0 ∷ 0 ∷ 0 ∷ 2 ∷ [])
+            ∷ replies (82 ∷ 80 ∷ 0 ∷ 0 ∷ 0 ∷ 9 ∷ 3 ∷ 0 ∷ 0 ∷ 0 ∷ 0 ∷ 1 ∷ 0 ∷ 0 ∷ 0 ∷ 0 ∷ 0 ∷ 1 ∷ [])
+            ∷ replies (82 ∷ 80 ∷ 0 ∷ 0 ∷ 0 ∷ 10 ∷ 2 ∷ 0 ∷ 5 ∷ 0 ∷ 1 ∷ 0 ∷ [])
+            ∷ [];
+        tupleCount = 512;
+        tuples = record { space = 0; values = value 1 7 ∷ [] } ∷ record { space = 0; values = value 1 7 ∷ [] } ∷ record { space = 0; values = value 1 7 ∷ [] } ∷ record { space = 0; values = value 1 7 ∷ [] } ∷ record { space = 0; values = value 1 7 ∷ [] } ∷ record { space = 0; values = value 1 7 ∷ [] } ∷ record { space = 0; values = value 1 7 ∷ [] } ∷ record { space = 0; values = value 1 7 ∷ [] } ∷ [];
+        newest = record { space = 0; values = value 1 7 ∷ [] } ∷ record { space = 0; values = value 1 7 ∷ [] } ∷ record { space = 0; values = value 1 7 ∷ [] } ∷ record { space = 0; values = value 1 7 ∷ [] } ∷ record { space = 0; values = value 1 7 ∷ [] } ∷ record { space = 0; values = value 1 7 ∷ [] } ∷ record { space = 0; values = value 1 1 ∷ value 0 1 ∷ value 0 3 ∷ [] } ∷ record { space = 0; values = value 1 1 ∷ value 0 1 ∷ value 0 3 ∷ [] } ∷ [];
+        waiting = [];
+        spaces = record { number = 0; access = shared } ∷ [];
+        owed = [];
+      };
+    }
+    -- lowest monitor first, then lowest host: four pairs and room for three; number 1 was asked for at a host that crashed
+    ∷ record {
+      stream = (82 ∷ 86 ∷ 0 ∷ 1 ∷ 0 ∷ 0 ∷ 0 ∷ 1 ∷ 2 ∷ [])
+          ∷ (82 ∷ 86 ∷ 0 ∷ 1 ∷ 0 ∷ 0 ∷ 0 ∷ 2 ∷ 9 ∷ [])
+          ∷ (82 ∷ 86 ∷ 0 ∷ 1 ∷ 0 ∷ 0 ∷ 0 ∷ 3 ∷ 4 ∷ [])
+          ∷ (77 ∷ 79 ∷ 0 ∷ 3 ∷ 0 ∷ 0 ∷ 0 ∷ 4 ∷ 9 ∷ 0 ∷ 6 ∷ [])
+          ∷ (77 ∷ 79 ∷ 0 ∷ 3 ∷ 0 ∷ 0 ∷ 0 ∷ 5 ∷ 2 ∷ 0 ∷ 5 ∷ [])
+          -- 128 tuples
+          ∷ (65 ∷ 71 ∷ 0 ∷ 58 ∷ 0 ∷ 0 ∷ 0 ∷ 6 ∷ 2 ∷ 0 ∷ 5 ∷ 1 ∷ 0 ∷ 8 ∷ 5 ∷ 0 ∷ 0 ∷ 1 ∷ 0 ∷ 1 ∷ 0 ∷ 0 ∷ 0 ∷ 7 ∷ 7 ∷ 0 ∷ 0 ∷ 0 ∷ 0 ∷ 0 ∷ 7 ∷ 0 ∷ 0 ∷ 0 ∷ 0 ∷ 0 ∷ 7 ∷ 0 ∷ 0 ∷ 0 ∷ 0 ∷ 0 ∷ 7 ∷ 0 ∷ 0 ∷ 0 ∷ 0 ∷ 0 ∷ 7 ∷ 0 ∷ 0 ∷ 0 ∷ 0 ∷ 0 ∷ 7 ∷ 0 ∷ 0 ∷ 0 ∷ 0 ∷ 0 ∷ 7 ∷ 0 ∷ 0 ∷ 0 ∷ 0 ∷ 0 ∷ [])
+          -- 512 tuples
+          ∷ (65 ∷ 71 ∷ 0 ∷ 18 ∷ 0 ∷ 0 ∷ 0 ∷ 7 ∷ 2 ∷ 0 ∷ 5 ∷ 1 ∷ 0 ∷ 2 ∷ 7 ∷ 0 ∷ 0 ∷ 0 ∷ 0 ∷ 0 ∷ 7 ∷ 0 ∷ 0 ∷ 0 ∷ 0 ∷ 0 ∷ [])
+          ∷ (67 ∷ 82 ∷ 0 ∷ 1 ∷ 0 ∷ 0 ∷ 0 ∷ 8 ∷ 9 ∷ [])
+          ∷ (67 ∷ 82 ∷ 0 ∷ 1 ∷ 0 ∷ 0 ∷ 0 ∷ 9 ∷ 4 ∷ [])
+          ∷ (65 ∷ 71 ∷ 0 ∷ 35 ∷ 0 ∷ 0 ∷ 0 ∷ 10 ∷ 2 ∷ 0 ∷ 5 ∷ 1 ∷ 1 ∷ 0 ∷ 0 ∷ 1 ∷ 0 ∷ 1 ∷ 0 ∷ 0 ∷ 0 ∷ 7 ∷ 2 ∷ 1 ∷ 0 ∷ 0 ∷ 1 ∷ 0 ∷ 1 ∷ 0 ∷ 0 ∷ 0 ∷ 7 ∷ 1 ∷ 0 ∷ 0 ∷ 1 ∷ 0 ∷ 1 ∷ 0 ∷ 0 ∷ 0 ∷ 7 ∷ [])
+          ∷ [];
+      shows = record {
+        answers = replies (82 ∷ 80 ∷ 0 ∷ 0 ∷ 0 ∷ 1 ∷ 2 ∷ 0 ∷ 0 ∷ 0 ∷ 0 ∷ 1 ∷ 0 ∷ 0 ∷ 0 ∷ 0 ∷ 0 ∷ 1 ∷ [])
+            ∷ replies (82 ∷ 80 ∷ 0 ∷ 0 ∷ 0 ∷ 2 ∷ 9 ∷ 0 ∷ 0 ∷ 0 ∷ 0 ∷ 1 ∷ 0 ∷ 0 ∷ 0 ∷ 0 ∷ 0 ∷ 2 ∷ [])
+            ∷ replies (82 ∷ 80 ∷ 0 ∷ 0 ∷ 0 ∷ 3 ∷ 4 ∷ 0 ∷ 0 ∷ 0 ∷ 0 ∷ 1 ∷ 0 ∷ 0 ∷ 0 ∷ 0 ∷ 0 ∷ 3 ∷ [])
+            ∷ replies (82 ∷ 80 ∷ 0 ∷ 0 ∷ 0 ∷ 4 ∷ 9 ∷ 0 ∷ 6 ∷ 0 ∷ 0 ∷ 1 ∷ 0 ∷ 0 ∷ 0 ∷ 0 ∷ 0 ∷ 1 ∷ [])
+            ∷ replies (82 ∷ 80 ∷ 0 ∷ 0 ∷ 0 ∷ 5 ∷ 2 ∷ 0 ∷ 5 ∷ 0 ∷ 0 ∷ 1 ∷ 0 ∷ 0 ∷ 0 ∷ 0 ∷ 0 ∷ 2 ∷ [])
+            ∷ replies (82 ∷ 80 ∷ 0 ∷ 0 ∷ 0 ∷ 6 ∷ 2 ∷ 0 ∷ 5 ∷ 0 ∷ 1 ∷ 0 ∷ [])
+            ∷ replies (82 ∷ 80 ∷ 0 ∷ 0 ∷ 0 ∷ 7 ∷ 2 ∷ 0 ∷ 5 ∷ 0 ∷ 1 ∷ 0 ∷ [])
+            ∷ replies (82 ∷ 80 ∷ 0 ∷ 0 ∷ 0 ∷ 8 ∷ 9 ∷ 0 ∷ 0 ∷ 0 ∷ 0 ∷ 1 ∷ 0 ∷ 0 ∷ 0 ∷ 0 ∷ 0 ∷ 2 ∷ [])
+            ∷ replies (82 ∷ 80 ∷ 0 ∷ 0 ∷ 0 ∷ 9 ∷ 4 ∷ 0 ∷ 0 ∷ 0 ∷ 0 ∷ 1 ∷ 0 ∷ 0 ∷ 0 ∷ 0 ∷ 0 ∷ 1 ∷ [])
+            ∷ replies (82 ∷ 80 ∷ 0 ∷ 0 ∷ 0 ∷ 10 ∷ 2 ∷ 0 ∷ 5 ∷ 0 ∷ 1 ∷ 0 ∷ [])
+            ∷ [];
+        tupleCount = 512;
+        tuples = record { space = 0; values = value 1 7 ∷ [] } ∷ record { space = 0; values = value 1 7 ∷ [] } ∷ record { space = 0; values = value 1 7 ∷ [] } ∷ record { space = 0; values = value 1 7 ∷ [] } ∷ record { space = 0; values = value 1 7 ∷ [] } ∷ record { space = 0; values = value 1 7 ∷ [] } ∷ record { space = 0; values = value 1 7 ∷ [] } ∷ record { space = 0; values = value 1 7 ∷ [] } ∷ [];
+        newest = record { space = 0; values = value 1 7 ∷ [] } ∷ record { space = 0; values = value 1 7 ∷ [] } ∷ record { space = 0; values = value 1 7 ∷ [] } ∷ record { space = 0; values = value 1 7 ∷ [] } ∷ record { space = 0; values = value 1 7 ∷ [] } ∷ record { space = 0; values = value 1 1 ∷ value 0 1 ∷ value 0 4 ∷ [] } ∷ record { space = 0; values = value 1 1 ∷ value 0 1 ∷ value 0 9 ∷ [] } ∷ record { space = 0; values = value 1 1 ∷ value 0 2 ∷ value 0 4 ∷ [] } ∷ [];
+        waiting = [];
+        spaces = record { number = 0; access = shared } ∷ [];
+        owed = (2, 9) ∷ [];
+      };
+    }
+    -- never inside a statement: at 512 one that takes one and puts one is done, and the debt stays; one that takes one and puts two is 12
+    ∷ record {
+      stream = (82 ∷ 86 ∷ 0 ∷ 1 ∷ 0 ∷ 0 ∷ 0 ∷ 1 ∷ 2 ∷ [])
+          ∷ (82 ∷ 86 ∷ 0 ∷ 1 ∷ 0 ∷ 0 ∷ 0 ∷ 2 ∷ 3 ∷ [])
+          ∷ (77 ∷ 79 ∷ 0 ∷ 3 ∷ 0 ∷ 0 ∷ 0 ∷ 3 ∷ 2 ∷ 0 ∷ 5 ∷ [])
+          -- 128 tuples
+          ∷ (65 ∷ 71 ∷ 0 ∷ 58 ∷ 0 ∷ 0 ∷ 0 ∷ 4 ∷ 2 ∷ 0 ∷ 5 ∷ 1 ∷ 0 ∷ 8 ∷ 5 ∷ 0 ∷ 0 ∷ 1 ∷ 0 ∷ 1 ∷ 0 ∷ 0 ∷ 0 ∷ 7 ∷ 7 ∷ 0 ∷ 0 ∷ 0 ∷ 0 ∷ 0 ∷ 7 ∷ 0 ∷ 0 ∷ 0 ∷ 0 ∷ 0 ∷ 7 ∷ 0 ∷ 0 ∷ 0 ∷ 0 ∷ 0 ∷ 7 ∷ 0 ∷ 0 ∷ 0 ∷ 0 ∷ 0 ∷ 7 ∷ 0 ∷ 0 ∷ 0 ∷ 0 ∷ 0 ∷ 7 ∷ 0 ∷ 0 ∷ 0 ∷ 0 ∷ 0 ∷ 7 ∷ 0 ∷ 0 ∷ 0 ∷ 0 ∷ 0 ∷ [])
+          -- 512 tuples
+          ∷ (65 ∷ 71 ∷ 0 ∷ 18 ∷ 0 ∷ 0 ∷ 0 ∷ 5 ∷ 2 ∷ 0 ∷ 5 ∷ 1 ∷ 0 ∷ 2 ∷ 7 ∷ 0 ∷ 0 ∷ 0 ∷ 0 ∷ 0 ∷ 7 ∷ 0 ∷ 0 ∷ 0 ∷ 0 ∷ 0 ∷ [])
+          ∷ (67 ∷ 82 ∷ 0 ∷ 1 ∷ 0 ∷ 0 ∷ 0 ∷ 6 ∷ 3 ∷ [])
+          ∷ (65 ∷ 71 ∷ 0 ∷ 25 ∷ 0 ∷ 0 ∷ 0 ∷ 7 ∷ 2 ∷ 0 ∷ 5 ∷ 1 ∷ 1 ∷ 0 ∷ 0 ∷ 1 ∷ 0 ∷ 1 ∷ 0 ∷ 0 ∷ 0 ∷ 7 ∷ 1 ∷ 5 ∷ 0 ∷ 0 ∷ 1 ∷ 0 ∷ 1 ∷ 0 ∷ 0 ∷ 0 ∷ 8 ∷ [])
+          ∷ (65 ∷ 71 ∷ 0 ∷ 35 ∷ 0 ∷ 0 ∷ 0 ∷ 8 ∷ 2 ∷ 0 ∷ 5 ∷ 1 ∷ 1 ∷ 0 ∷ 0 ∷ 1 ∷ 0 ∷ 1 ∷ 0 ∷ 0 ∷ 0 ∷ 7 ∷ 2 ∷ 5 ∷ 0 ∷ 0 ∷ 1 ∷ 0 ∷ 1 ∷ 0 ∷ 0 ∷ 0 ∷ 9 ∷ 5 ∷ 0 ∷ 0 ∷ 1 ∷ 0 ∷ 1 ∷ 0 ∷ 0 ∷ 0 ∷ 9 ∷ [])
+          -- the room that it made itself lays nothing
+          ∷ (65 ∷ 71 ∷ 0 ∷ 31 ∷ 0 ∷ 0 ∷ 0 ∷ 9 ∷ 2 ∷ 0 ∷ 5 ∷ 1 ∷ 1 ∷ 0 ∷ 0 ∷ 1 ∷ 0 ∷ 1 ∷ 0 ∷ 0 ∷ 0 ∷ 7 ∷ 1 ∷ 1 ∷ 0 ∷ 0 ∷ 3 ∷ 0 ∷ 1 ∷ 0 ∷ 0 ∷ 0 ∷ 1 ∷ 1 ∷ 0 ∷ 0 ∷ 1 ∷ 0 ∷ 1 ∷ [])
+          ∷ [];
+      shows = record {
+        answers = replies (82 ∷ 80 ∷ 0 ∷ 0 ∷ 0 ∷ 1 ∷ 2 ∷ 0 ∷ 0 ∷ 0 ∷ 0 ∷ 1 ∷ 0 ∷ 0 ∷ 0 ∷ 0 ∷ 0 ∷ 1 ∷ [])
+            ∷ replies (82 ∷ 80 ∷ 0 ∷ 0 ∷ 0 ∷ 2 ∷ 3 ∷ 0 ∷ 0 ∷ 0 ∷ 0 ∷ 1 ∷ 0 ∷ 0 ∷ 0 ∷ 0 ∷ 0 ∷ 2 ∷ [])
+            ∷ replies (82 ∷ 80 ∷ 0 ∷ 0 ∷ 0 ∷ 3 ∷ 2 ∷ 0 ∷ 5 ∷ 0 ∷ 0 ∷ 1 ∷ 0 ∷ 0 ∷ 0 ∷ 0 ∷ 0 ∷ 1 ∷ [])
+            ∷ replies (82 ∷ 80 ∷ 0 ∷ 0 ∷ 0 ∷ 4 ∷ 2 ∷ 0 ∷ 5 ∷ 0 ∷ 1 ∷ 0 ∷ [])
+            ∷ replies (82 ∷ 80 ∷ 0 ∷ 0 ∷ 0 ∷ 5 ∷ 2 ∷ 0 ∷ 5 ∷ 0 ∷ 1 ∷ 0 ∷ [])
+            ∷ replies (82 ∷ 80 ∷ 0 ∷ 0 ∷ 0 ∷ 6 ∷ 3 ∷ 0 ∷ 0 ∷ 0 ∷ 0 ∷ 1 ∷ 0 ∷ 0 ∷ 0 ∷ 0 ∷ 0 ∷ 1 ∷ [])
+            ∷ replies (82 ∷ 80 ∷ 0 ∷ 0 ∷ 0 ∷ 7 ∷ 2 ∷ 0 ∷ 5 ∷ 0 ∷ 1 ∷ 0 ∷ [])
+            ∷ replies (82 ∷ 80 ∷ 0 ∷ 0 ∷ 0 ∷ 8 ∷ 2 ∷ 0 ∷ 5 ∷ 12 ∷ 1 ∷ 0 ∷ [])
+            ∷ replies (82 ∷ 80 ∷ 0 ∷ 0 ∷ 0 ∷ 9 ∷ 2 ∷ 0 ∷ 5 ∷ 16 ∷ 1 ∷ 0 ∷ [])
+            ∷ [];
+        tupleCount = 512;
+        tuples = record { space = 0; values = value 1 7 ∷ [] } ∷ record { space = 0; values = value 1 7 ∷ [] } ∷ record { space = 0; values = value 1 7 ∷ [] } ∷ record { space = 0; values = value 1 7 ∷ [] } ∷ record { space = 0; values = value 1 7 ∷ [] } ∷ record { space = 0; values = value 1 7 ∷ [] } ∷ record { space = 0; values = value 1 7 ∷ [] } ∷ record { space = 0; values = value 1 7 ∷ [] } ∷ [];
+        newest = record { space = 0; values = value 1 7 ∷ [] } ∷ record { space = 0; values = value 1 7 ∷ [] } ∷ record { space = 0; values = value 1 7 ∷ [] } ∷ record { space = 0; values = value 1 7 ∷ [] } ∷ record { space = 0; values = value 1 7 ∷ [] } ∷ record { space = 0; values = value 1 7 ∷ [] } ∷ record { space = 0; values = value 1 7 ∷ [] } ∷ record { space = 0; values = value 1 8 ∷ [] } ∷ [];
+        waiting = [];
+        spaces = record { number = 0; access = shared } ∷ [];
+        owed = (1, 3) ∷ [];
+      };
+    }
+    -- a statement that fails makes no room, own or woken: it takes, then ends in 16, and the debt stays
+    ∷ record {
+      stream = (82 ∷ 86 ∷ 0 ∷ 1 ∷ 0 ∷ 0 ∷ 0 ∷ 1 ∷ 2 ∷ [])
+          ∷ (82 ∷ 86 ∷ 0 ∷ 1 ∷ 0 ∷ 0 ∷ 0 ∷ 2 ∷ 3 ∷ [])
+          ∷ (77 ∷ 79 ∷ 0 ∷ 3 ∷ 0 ∷ 0 ∷ 0 ∷ 3 ∷ 2 ∷ 0 ∷ 5 ∷ [])
+          ∷ (65 ∷ 71 ∷ 0 ∷ 35 ∷ 0 ∷ 0 ∷ 0 ∷ 4 ∷ 2 ∷ 0 ∷ 6 ∷ 1 ∷ 1 ∷ 0 ∷ 0 ∷ 1 ∷ 0 ∷ 1 ∷ 0 ∷ 0 ∷ 0 ∷ 8 ∷ 2 ∷ 1 ∷ 0 ∷ 0 ∷ 1 ∷ 0 ∷ 1 ∷ 0 ∷ 0 ∷ 0 ∷ 7 ∷ 1 ∷ 0 ∷ 0 ∷ 1 ∷ 0 ∷ 1 ∷ 0 ∷ 0 ∷ 0 ∷ 9 ∷ [])
+          -- 128 tuples
+          ∷ (65 ∷ 71 ∷ 0 ∷ 58 ∷ 0 ∷ 0 ∷ 0 ∷ 5 ∷ 2 ∷ 0 ∷ 5 ∷ 1 ∷ 0 ∷ 8 ∷ 5 ∷ 0 ∷ 0 ∷ 1 ∷ 0 ∷ 1 ∷ 0 ∷ 0 ∷ 0 ∷ 7 ∷ 7 ∷ 0 ∷ 0 ∷ 0 ∷ 0 ∷ 0 ∷ 7 ∷ 0 ∷ 0 ∷ 0 ∷ 0 ∷ 0 ∷ 7 ∷ 0 ∷ 0 ∷ 0 ∷ 0 ∷ 0 ∷ 7 ∷ 0 ∷ 0 ∷ 0 ∷ 0 ∷ 0 ∷ 7 ∷ 0 ∷ 0 ∷ 0 ∷ 0 ∷ 0 ∷ 7 ∷ 0 ∷ 0 ∷ 0 ∷ 0 ∷ 0 ∷ 7 ∷ 0 ∷ 0 ∷ 0 ∷ 0 ∷ 0 ∷ [])
+          -- 512 tuples
+          ∷ (65 ∷ 71 ∷ 0 ∷ 18 ∷ 0 ∷ 0 ∷ 0 ∷ 6 ∷ 2 ∷ 0 ∷ 5 ∷ 1 ∷ 0 ∷ 2 ∷ 7 ∷ 0 ∷ 0 ∷ 0 ∷ 0 ∷ 0 ∷ 7 ∷ 0 ∷ 0 ∷ 0 ∷ 0 ∷ 0 ∷ [])
+          ∷ (67 ∷ 82 ∷ 0 ∷ 1 ∷ 0 ∷ 0 ∷ 0 ∷ 7 ∷ 3 ∷ [])
+          ∷ (65 ∷ 71 ∷ 0 ∷ 25 ∷ 0 ∷ 0 ∷ 0 ∷ 8 ∷ 2 ∷ 0 ∷ 5 ∷ 1 ∷ 1 ∷ 0 ∷ 0 ∷ 1 ∷ 0 ∷ 1 ∷ 0 ∷ 0 ∷ 0 ∷ 7 ∷ 1 ∷ 1 ∷ 0 ∷ 0 ∷ 1 ∷ 0 ∷ 1 ∷ 0 ∷ 0 ∷ 0 ∷ 9 ∷ [])
+          ∷ (65 ∷ 71 ∷ 0 ∷ 25 ∷ 0 ∷ 0 ∷ 0 ∷ 9 ∷ 2 ∷ 0 ∷ 5 ∷ 1 ∷ 1 ∷ 0 ∷ 0 ∷ 1 ∷ 0 ∷ 1 ∷ 0 ∷ 0 ∷ 0 ∷ 7 ∷ 1 ∷ 5 ∷ 0 ∷ 0 ∷ 1 ∷ 0 ∷ 1 ∷ 0 ∷ 0 ∷ 0 ∷ 8 ∷ [])
+          ∷ [];
+      shows = record {
+        answers = replies (82 ∷ 80 ∷ 0 ∷ 0 ∷ 0 ∷ 1 ∷ 2 ∷ 0 ∷ 0 ∷ 0 ∷ 0 ∷ 1 ∷ 0 ∷ 0 ∷ 0 ∷ 0 ∷ 0 ∷ 1 ∷ [])
+            ∷ replies (82 ∷ 80 ∷ 0 ∷ 0 ∷ 0 ∷ 2 ∷ 3 ∷ 0 ∷ 0 ∷ 0 ∷ 0 ∷ 1 ∷ 0 ∷ 0 ∷ 0 ∷ 0 ∷ 0 ∷ 2 ∷ [])
+            ∷ replies (82 ∷ 80 ∷ 0 ∷ 0 ∷ 0 ∷ 3 ∷ 2 ∷ 0 ∷ 5 ∷ 0 ∷ 0 ∷ 1 ∷ 0 ∷ 0 ∷ 0 ∷ 0 ∷ 0 ∷ 1 ∷ [])
+            ∷ replies []
+            ∷ replies (82 ∷ 80 ∷ 0 ∷ 0 ∷ 0 ∷ 5 ∷ 2 ∷ 0 ∷ 5 ∷ 0 ∷ 1 ∷ 0 ∷ [])
+            ∷ replies (82 ∷ 80 ∷ 0 ∷ 0 ∷ 0 ∷ 6 ∷ 2 ∷ 0 ∷ 5 ∷ 0 ∷ 1 ∷ 0 ∷ [])
+            ∷ replies (82 ∷ 80 ∷ 0 ∷ 0 ∷ 0 ∷ 7 ∷ 3 ∷ 0 ∷ 0 ∷ 0 ∷ 0 ∷ 1 ∷ 0 ∷ 0 ∷ 0 ∷ 0 ∷ 0 ∷ 1 ∷ [])
+            ∷ replies (82 ∷ 80 ∷ 0 ∷ 0 ∷ 0 ∷ 8 ∷ 2 ∷ 0 ∷ 5 ∷ 16 ∷ 1 ∷ 0 ∷ [])
+            ∷ replies (82 ∷ 80 ∷ 0 ∷ 0 ∷ 0 ∷ 9 ∷ 2 ∷ 0 ∷ 5 ∷ 0 ∷ 1 ∷ 0 ∷ 82 ∷ 80 ∷ 0 ∷ 0 ∷ 0 ∷ 4 ∷ 2 ∷ 0 ∷ 6 ∷ 16 ∷ 1 ∷ 0 ∷ [])
+            ∷ [];
+        tupleCount = 512;
+        tuples = record { space = 0; values = value 1 7 ∷ [] } ∷ record { space = 0; values = value 1 7 ∷ [] } ∷ record { space = 0; values = value 1 7 ∷ [] } ∷ record { space = 0; values = value 1 7 ∷ [] } ∷ record { space = 0; values = value 1 7 ∷ [] } ∷ record { space = 0; values = value 1 7 ∷ [] } ∷ record { space = 0; values = value 1 7 ∷ [] } ∷ record { space = 0; values = value 1 7 ∷ [] } ∷ [];
+        newest = record { space = 0; values = value 1 7 ∷ [] } ∷ record { space = 0; values = value 1 7 ∷ [] } ∷ record { space = 0; values = value 1 7 ∷ [] } ∷ record { space = 0; values = value 1 7 ∷ [] } ∷ record { space = 0; values = value 1 7 ∷ [] } ∷ record { space = 0; values = value 1 7 ∷ [] } ∷ record { space = 0; values = value 1 7 ∷ [] } ∷ record { space = 0; values = value 1 8 ∷ [] } ∷ [];
+        waiting = [];
+        spaces = record { number = 0; access = shared } ∷ [];
+        owed = (1, 3) ∷ [];
+      };
+    }
+    -- before the search: the statement takes two and puts one, the debt takes the place, and the one that it wakes, which reads and puts, is 12
+    ∷ record {
+      stream = (82 ∷ 86 ∷ 0 ∷ 1 ∷ 0 ∷ 0 ∷ 0 ∷ 1 ∷ 2 ∷ [])
+          ∷ (82 ∷ 86 ∷ 0 ∷ 1 ∷ 0 ∷ 0 ∷ 0 ∷ 2 ∷ 3 ∷ [])
+          ∷ (77 ∷ 79 ∷ 0 ∷ 3 ∷ 0 ∷ 0 ∷ 0 ∷ 3 ∷ 2 ∷ 0 ∷ 5 ∷ [])
+          ∷ (65 ∷ 71 ∷ 0 ∷ 25 ∷ 0 ∷ 0 ∷ 0 ∷ 4 ∷ 2 ∷ 0 ∷ 6 ∷ 1 ∷ 3 ∷ 0 ∷ 0 ∷ 1 ∷ 0 ∷ 1 ∷ 0 ∷ 0 ∷ 0 ∷ 9 ∷ 1 ∷ 5 ∷ 0 ∷ 0 ∷ 1 ∷ 0 ∷ 1 ∷ 0 ∷ 0 ∷ 0 ∷ 8 ∷ [])
+          -- 128 tuples
+          ∷ (65 ∷ 71 ∷ 0 ∷ 58 ∷ 0 ∷ 0 ∷ 0 ∷ 5 ∷ 2 ∷ 0 ∷ 5 ∷ 1 ∷ 0 ∷ 8 ∷ 5 ∷ 0 ∷ 0 ∷ 1 ∷ 0 ∷ 1 ∷ 0 ∷ 0 ∷ 0 ∷ 7 ∷ 7 ∷ 0 ∷ 0 ∷ 0 ∷ 0 ∷ 0 ∷ 7 ∷ 0 ∷ 0 ∷ 0 ∷ 0 ∷ 0 ∷ 7 ∷ 0 ∷ 0 ∷ 0 ∷ 0 ∷ 0 ∷ 7 ∷ 0 ∷ 0 ∷ 0 ∷ 0 ∷ 0 ∷ 7 ∷ 0 ∷ 0 ∷ 0 ∷ 0 ∷ 0 ∷ 7 ∷ 0 ∷ 0 ∷ 0 ∷ 0 ∷ 0 ∷ 7 ∷ 0 ∷ 0 ∷ 0 ∷ 0 ∷ 0 ∷ [])
+          -- 512 tuples
+          ∷ (65 ∷ 71 ∷ 0 ∷ 18 ∷ 0 ∷ 0 ∷ 0 ∷ 6 ∷ 2 ∷ 0 ∷ 5 ∷ 1 ∷ 0 ∷ 2 ∷ 7 ∷ 0 ∷ 0 ∷ 0 ∷ 0 ∷ 0 ∷ 7 ∷ 0 ∷ 0 ∷ 0 ∷ 0 ∷ 0 ∷ [])
+          ∷ (67 ∷ 82 ∷ 0 ∷ 1 ∷ 0 ∷ 0 ∷ 0 ∷ 7 ∷ 3 ∷ [])
+          ∷ (65 ∷ 71 ∷ 0 ∷ 35 ∷ 0 ∷ 0 ∷ 0 ∷ 8 ∷ 2 ∷ 0 ∷ 5 ∷ 1 ∷ 1 ∷ 0 ∷ 0 ∷ 1 ∷ 0 ∷ 1 ∷ 0 ∷ 0 ∷ 0 ∷ 7 ∷ 2 ∷ 1 ∷ 0 ∷ 0 ∷ 1 ∷ 0 ∷ 1 ∷ 0 ∷ 0 ∷ 0 ∷ 7 ∷ 5 ∷ 0 ∷ 0 ∷ 1 ∷ 0 ∷ 1 ∷ 0 ∷ 0 ∷ 0 ∷ 9 ∷ [])
+          ∷ [];
+      shows = record {
+        answers = replies (82 ∷ 80 ∷ 0 ∷ 0 ∷ 0 ∷ 1 ∷ 2 ∷ 0 ∷ 0 ∷ 0 ∷ 0 ∷ 1 ∷ 0 ∷ 0 ∷ 0 ∷ 0 ∷ 0 ∷ 1 ∷ [])
+            ∷ replies (82 ∷ 80 ∷ 0 ∷ 0 ∷ 0 ∷ 2 ∷ 3 ∷ 0 ∷ 0 ∷ 0 ∷ 0 ∷ 1 ∷ 0 ∷ 0 ∷ 0 ∷ 0 ∷ 0 ∷ 2 ∷ [])
+            ∷ replies (82 ∷ 80 ∷ 0 ∷ 0 ∷ 0 ∷ 3 ∷ 2 ∷ 0 ∷ 5 ∷ 0 ∷ 0 ∷ 1 ∷ 0 ∷ 0 ∷ 0 ∷ 0 ∷ 0 ∷ 1 ∷ [])
+            ∷ replies []
+            ∷ replies (82 ∷ 80 ∷ 0 ∷ 0 ∷ 0 ∷ 5 ∷ 2 ∷ 0 ∷ 5 ∷ 0 ∷ 1 ∷ 0 ∷ [])
+            ∷ replies (82 ∷ 80 ∷ 0 ∷ 0 ∷ 0 ∷ 6 ∷ 2 ∷ 0 ∷ 5 ∷ 0 ∷ 1 ∷ 0 ∷ [])
+            ∷ replies (82 ∷ 80 ∷ 0 ∷ 0 ∷ 0 ∷ 7 ∷ 3 ∷ 0 ∷ 0 ∷ 0 ∷ 0 ∷ 1 ∷ 0 ∷ 0 ∷ 0 ∷ 0 ∷ 0 ∷ 1 ∷ [])
+            ∷ replies (82 ∷ 80 ∷ 0 ∷ 0 ∷ 0 ∷ 8 ∷ 2 ∷ 0 ∷ 5 ∷ 0 ∷ 1 ∷ 0 ∷ 82 ∷ 80 ∷ 0 ∷ 0 ∷ 0 ∷ 4 ∷ 2 ∷ 0 ∷ 6 ∷ 12 ∷ 1 ∷ 0 ∷ [])
+            ∷ [];
+        tupleCount = 512;
+        tuples = record { space = 0; values = value 1 7 ∷ [] } ∷ record { space = 0; values = value 1 7 ∷ [] } ∷ record { space = 0; values = value 1 7 ∷ [] } ∷ record { space = 0; values = value 1 7 ∷ [] } ∷ record { space = 0; values = value 1 7 ∷ [] } ∷ record { space = 0; values = value 1 7 ∷ [] } ∷ record { space = 0; values = value 1 7 ∷ [] } ∷ record { space = 0; values = value 1 7 ∷ [] } ∷ [];
+        newest = record { space = 0; values = value 1 7 ∷ [] } ∷ record { space = 0; values = value 1 7 ∷ [] } ∷ record { space = 0; values = value 1 7 ∷ [] } ∷ record { space = 0; values = value 1 7 ∷ [] } ∷ record { space = 0; values = value 1 7 ∷ [] } ∷ record { space = 0; values = value 1 7 ∷ [] } ∷ record { space = 0; values = value 1 9 ∷ [] } ∷ record { space = 0; values = value 1 1 ∷ value 0 1 ∷ value 0 3 ∷ [] } ∷ [];
+        waiting = [];
+        spaces = record { number = 0; access = shared } ∷ [];
+        owed = [];
+      };
+    }
+    -- an in makes room, the debt is laid and wakes the statement that waited for it, which reads it and puts: 12
+    ∷ record {
+      stream = (82 ∷ 86 ∷ 0 ∷ 1 ∷ 0 ∷ 0 ∷ 0 ∷ 1 ∷ 2 ∷ [])
+          ∷ (82 ∷ 86 ∷ 0 ∷ 1 ∷ 0 ∷ 0 ∷ 0 ∷ 2 ∷ 3 ∷ [])
+          ∷ (77 ∷ 79 ∷ 0 ∷ 3 ∷ 0 ∷ 0 ∷ 0 ∷ 3 ∷ 2 ∷ 0 ∷ 5 ∷ [])
+          ∷ (65 ∷ 71 ∷ 0 ∷ 31 ∷ 0 ∷ 0 ∷ 0 ∷ 4 ∷ 2 ∷ 0 ∷ 6 ∷ 1 ∷ 3 ∷ 0 ∷ 0 ∷ 3 ∷ 0 ∷ 1 ∷ 0 ∷ 0 ∷ 0 ∷ 1 ∷ 1 ∷ 0 ∷ 0 ∷ 1 ∷ 0 ∷ 1 ∷ 1 ∷ 5 ∷ 0 ∷ 0 ∷ 1 ∷ 0 ∷ 1 ∷ 0 ∷ 0 ∷ 0 ∷ 8 ∷ [])
+          -- 128 tuples
+          ∷ (65 ∷ 71 ∷ 0 ∷ 58 ∷ 0 ∷ 0 ∷ 0 ∷ 5 ∷ 2 ∷ 0 ∷ 5 ∷ 1 ∷ 0 ∷ 8 ∷ 5 ∷ 0 ∷ 0 ∷ 1 ∷ 0 ∷ 1 ∷ 0 ∷ 0 ∷ 0 ∷ 7 ∷ 7 ∷ 0 ∷ 0 ∷ 0 ∷ 0 ∷ 0 ∷ 7 ∷ 0 ∷ 0 ∷ 0 ∷ 0 ∷ 0 ∷ 7 ∷ 0 ∷ 0 ∷ 0 ∷ 0 ∷ 0 ∷ 7 ∷ 0 ∷ 0 ∷ 0 ∷ 0 ∷ 0 ∷ 7 ∷ 0 ∷ 0 ∷ 0 ∷ 0 ∷ 0 ∷ 7 ∷ 0 ∷ 0 ∷ 0 ∷ 0 ∷ 0 ∷ 7 ∷ 0 ∷ 0 ∷ 0 ∷ 0 ∷ 0 ∷ [])
+          -- 512 tuples
+          ∷ (65 ∷ 71 ∷ 0 ∷ 18 ∷ 0 ∷ 0 ∷ 0 ∷ 6 ∷ 2 ∷ 0 ∷ 5 ∷ 1 ∷ 0 ∷ 2 ∷ 7 ∷ 0 ∷ 0 ∷ 0 ∷ 0 ∷ 0 ∷ 7 ∷ 0 ∷ 0 ∷ 0 ∷ 0 ∷ 0 ∷ [])
+          -- what is owed wakes nobody
+          ∷ (67 ∷ 82 ∷ 0 ∷ 1 ∷ 0 ∷ 0 ∷ 0 ∷ 7 ∷ 3 ∷ [])
+          ∷ (65 ∷ 71 ∷ 0 ∷ 15 ∷ 0 ∷ 0 ∷ 0 ∷ 8 ∷ 2 ∷ 0 ∷ 5 ∷ 1 ∷ 1 ∷ 0 ∷ 0 ∷ 1 ∷ 0 ∷ 1 ∷ 0 ∷ 0 ∷ 0 ∷ 7 ∷ 0 ∷ [])
+          ∷ [];
+      shows = record {
+        answers = replies (82 ∷ 80 ∷ 0 ∷ 0 ∷ 0 ∷ 1 ∷ 2 ∷ 0 ∷ 0 ∷ 0 ∷ 0 ∷ 1 ∷ 0 ∷ 0 ∷ 0 ∷ 0 ∷ 0 ∷ 1 ∷ [])
+            ∷ replies (82 ∷ 80 ∷ 0 ∷ 0 ∷ 0 ∷ 2 ∷ 3 ∷ 0 ∷ 0 ∷ 0 ∷ 0 ∷ 1 ∷ 0 ∷ 0 ∷ 0 ∷ 0 ∷ 0 ∷ 2 ∷ [])
+            ∷ replies (82 ∷ 80 ∷ 0 ∷ 0 ∷ 0 ∷ 3 ∷ 2 ∷ 0 ∷ 5 ∷ 0 ∷ 0 ∷ 1 ∷ 0 ∷ 0 ∷ 0 ∷ 0 ∷ 0 ∷ 1 ∷ [])
+            ∷ replies []
+            ∷ replies (82 ∷ 80 ∷ 0 ∷ 0 ∷ 0 ∷ 5 ∷ 2 ∷ 0 ∷ 5 ∷ 0 ∷ 1 ∷ 0 ∷ [])
+            ∷ replies (82 ∷ 80 ∷ 0 ∷ 0 ∷ 0 ∷ 6 ∷ 2 ∷ 0 ∷ 5 ∷ 0 ∷ 1 ∷ 0 ∷ [])
+            ∷ replies (82 ∷ 80 ∷ 0 ∷ 0 ∷ 0 ∷ 7 ∷ 3 ∷ 0 ∷ 0 ∷ 0 ∷ 0 ∷ 1 ∷ 0 ∷ 0 ∷ 0 ∷ 0 ∷ 0 ∷ 1 ∷ [])
+            ∷ replies (82 ∷ 80 ∷ 0 ∷ 0 ∷ 0 ∷ 8 ∷ 2 ∷ 0 ∷ 5 ∷ 0 ∷ 1 ∷ 0 ∷ 82 ∷ 80 ∷ 0 ∷ 0 ∷ 0 ∷ 4 ∷ 2 ∷ 0 ∷ 6 ∷ 12 ∷ 1 ∷ 0 ∷ [])
+            ∷ [];
+        tupleCount = 512;
+        tuples = record { space = 0; values = value 1 7 ∷ [] } ∷ record { space = 0; values = value 1 7 ∷ [] } ∷ record { space = 0; values = value 1 7 ∷ [] } ∷ record { space = 0; values = value 1 7 ∷ [] } ∷ record { space = 0; values = value 1 7 ∷ [] } ∷ record { space = 0; values = value 1 7 ∷ [] } ∷ record { space = 0; values = value 1 7 ∷ [] } ∷ record { space = 0; values = value 1 7 ∷ [] } ∷ [];
+        newest = record { space = 0; values = value 1 7 ∷ [] } ∷ record { space = 0; values = value 1 7 ∷ [] } ∷ record { space = 0; values = value 1 7 ∷ [] } ∷ record { space = 0; values = value 1 7 ∷ [] } ∷ record { space = 0; values = value 1 7 ∷ [] } ∷ record { space = 0; values = value 1 7 ∷ [] } ∷ record { space = 0; values = value 1 7 ∷ [] } ∷ record { space = 0; values = value 1 1 ∷ value 0 1 ∷ value 0 3 ∷ [] } ∷ [];
+        waiting = [];
+        spaces = record { number = 0; access = shared } ∷ [];
+        owed = [];
+      };
+    }
+    -- after a woken statement: 5 takes two, the debt is laid, and the search from the oldest finds 4, which reads it
+    ∷ record {
+      stream = (82 ∷ 86 ∷ 0 ∷ 1 ∷ 0 ∷ 0 ∷ 0 ∷ 1 ∷ 2 ∷ [])
+          ∷ (82 ∷ 86 ∷ 0 ∷ 1 ∷ 0 ∷ 0 ∷ 0 ∷ 2 ∷ 3 ∷ [])
+          ∷ (77 ∷ 79 ∷ 0 ∷ 3 ∷ 0 ∷ 0 ∷ 0 ∷ 3 ∷ 2 ∷ 0 ∷ 5 ∷ [])
+          ∷ (65 ∷ 71 ∷ 0 ∷ 21 ∷ 0 ∷ 0 ∷ 0 ∷ 4 ∷ 2 ∷ 0 ∷ 6 ∷ 1 ∷ 3 ∷ 0 ∷ 0 ∷ 3 ∷ 0 ∷ 1 ∷ 0 ∷ 0 ∷ 0 ∷ 1 ∷ 1 ∷ 0 ∷ 0 ∷ 1 ∷ 0 ∷ 1 ∷ 0 ∷ [])
+          ∷ (65 ∷ 71 ∷ 0 ∷ 25 ∷ 0 ∷ 0 ∷ 0 ∷ 5 ∷ 2 ∷ 0 ∷ 7 ∷ 1 ∷ 1 ∷ 0 ∷ 0 ∷ 1 ∷ 0 ∷ 1 ∷ 0 ∷ 0 ∷ 0 ∷ 9 ∷ 1 ∷ 1 ∷ 0 ∷ 0 ∷ 1 ∷ 0 ∷ 1 ∷ 0 ∷ 0 ∷ 0 ∷ 7 ∷ [])
+          -- 128 tuples
+          ∷ (65 ∷ 71 ∷ 0 ∷ 58 ∷ 0 ∷ 0 ∷ 0 ∷ 6 ∷ 2 ∷ 0 ∷ 5 ∷ 1 ∷ 0 ∷ 8 ∷ 5 ∷ 0 ∷ 0 ∷ 1 ∷ 0 ∷ 1 ∷ 0 ∷ 0 ∷ 0 ∷ 7 ∷ 7 ∷ 0 ∷ 0 ∷ 0 ∷ 0 ∷ 0 ∷ 7 ∷ 0 ∷ 0 ∷ 0 ∷ 0 ∷ 0 ∷ 7 ∷ 0 ∷ 0 ∷ 0 ∷ 0 ∷ 0 ∷ 7 ∷ 0 ∷ 0 ∷ 0 ∷ 0 ∷ 0 ∷ 7 ∷ 0 ∷ 0 ∷ 0 ∷ 0 ∷ 0 ∷ 7 ∷ 0 ∷ 0 ∷ 0 ∷ 0 ∷ 0 ∷ 7 ∷ 0 ∷ 0 ∷ 0 ∷ 0 ∷ 0 ∷ [])
+          -- 512 tuples
+          ∷ (65 ∷ 71 ∷ 0 ∷ 18 ∷ 0 ∷ 0 ∷ 0 ∷ 7 ∷ 2 ∷ 0 ∷ 5 ∷ 1 ∷ 0 ∷ 2 ∷ 7 ∷ 0 ∷ 0 ∷ 0 ∷ 0 ∷ 0 ∷ 7 ∷ 0 ∷ 0 ∷ 0 ∷ 0 ∷ 0 ∷ [])
+          ∷ (67 ∷ 82 ∷ 0 ∷ 1 ∷ 0 ∷ 0 ∷ 0 ∷ 8 ∷ 3 ∷ [])
+          ∷ (65 ∷ 71 ∷ 0 ∷ 25 ∷ 0 ∷ 0 ∷ 0 ∷ 9 ∷ 2 ∷ 0 ∷ 5 ∷ 1 ∷ 1 ∷ 0 ∷ 0 ∷ 1 ∷ 0 ∷ 1 ∷ 0 ∷ 0 ∷ 0 ∷ 7 ∷ 1 ∷ 5 ∷ 0 ∷ 0 ∷ 1 ∷ 0 ∷ 1 ∷ 0 ∷ 0 ∷ 0 ∷ 9 ∷ [])
+          ∷ [];
+      shows = record {
+        answers = replies (82 ∷ 80 ∷ 0 ∷ 0 ∷ 0 ∷ 1 ∷ 2 ∷ 0 ∷ 0 ∷ 0 ∷ 0 ∷ 1 ∷ 0 ∷ 0 ∷ 0 ∷ 0 ∷ 0 ∷ 1 ∷ [])
+            ∷ replies (82 ∷ 80 ∷ 0 ∷ 0 ∷ 0 ∷ 2 ∷ 3 ∷ 0 ∷ 0 ∷ 0 ∷ 0 ∷ 1 ∷ 0 ∷ 0 ∷ 0 ∷ 0 ∷ 0 ∷ 2 ∷ [])
+            ∷ replies (82 ∷ 80 ∷ 0 ∷ 0 ∷ 0 ∷ 3 ∷ 2 ∷ 0 ∷ 5 ∷ 0 ∷ 0 ∷ 1 ∷ 0 ∷ 0 ∷ 0 ∷ 0 ∷ 0 ∷ 1 ∷ [])
+            ∷ replies []
+            ∷ replies []
+            ∷ replies (82 ∷ 80 ∷ 0 ∷ 0 ∷ 0 ∷ 6 ∷ 2 ∷ 0 ∷ 5 ∷ 0 ∷ 1 ∷ 0 ∷ [])
+            ∷ replies (82 ∷ 80 ∷ 0 ∷ 0 ∷ 0 ∷ 7 ∷ 2 ∷ 0 ∷ 5 ∷ 0 ∷ 1 ∷ 0 ∷ [])
+            ∷ replies (82 ∷ 80 ∷ 0 ∷ 0 ∷ 0 ∷ 8 ∷ 3 ∷ 0 ∷ 0 ∷ 0 ∷ 0 ∷ 1 ∷ 0 ∷ 0 ∷ 0 ∷ 0 ∷ 0 ∷ 1 ∷ [])
+            ∷ replies (82 ∷ 80 ∷ 0 ∷ 0 ∷ 0 ∷ 9 ∷ 2 ∷ 0 ∷ 5 ∷ 0 ∷ 1 ∷ 0 ∷ 82 ∷ 80 ∷ 0 ∷ 0 ∷ 0 ∷ 5 ∷ 2 ∷ 0 ∷ 7 ∷ 0 ∷ 1 ∷ 0 ∷ 82 ∷ 80 ∷ 0 ∷ 0 ∷ 0 ∷ 4 ∷ 2 ∷ 0 ∷ 6 ∷ 0 ∷ 1 ∷ 2 ∷ 0 ∷ 0 ∷ 0 ∷ 0 ∷ 0 ∷ 1 ∷ 1 ∷ 0 ∷ 0 ∷ 0 ∷ 0 ∷ 3 ∷ [])
+            ∷ [];
+        tupleCount = 511;
+        tuples = record { space = 0; values = value 1 7 ∷ [] } ∷ record { space = 0; values = value 1 7 ∷ [] } ∷ record { space = 0; values = value 1 7 ∷ [] } ∷ record { space = 0; values = value 1 7 ∷ [] } ∷ record { space = 0; values = value 1 7 ∷ [] } ∷ record { space = 0; values = value 1 7 ∷ [] } ∷ record { space = 0; values = value 1 7 ∷ [] } ∷ record { space = 0; values = value 1 7 ∷ [] } ∷ [];
+        newest = record { space = 0; values = value 1 7 ∷ [] } ∷ record { space = 0; values = value 1 7 ∷ [] } ∷ record { space = 0; values = value 1 7 ∷ [] } ∷ record { space = 0; values = value 1 7 ∷ [] } ∷ record { space = 0; values = value 1 7 ∷ [] } ∷ record { space = 0; values = value 1 7 ∷ [] } ∷ record { space = 0; values = value 1 7 ∷ [] } ∷ record { space = 0; values = value 1 1 ∷ value 0 1 ∷ value 0 3 ∷ [] } ∷ [];
+        waiting = [];
+        spaces = record { number = 0; access = shared } ∷ [];
+        owed = [];
+      };
+    }
+    -- after a woken statement the debt takes the room first: 4 takes two and puts one, and 5, which it wakes, reads and puts: 12
+    ∷ record {
+      stream = (82 ∷ 86 ∷ 0 ∷ 1 ∷ 0 ∷ 0 ∷ 0 ∷ 1 ∷ 2 ∷ [])
+          ∷ (82 ∷ 86 ∷ 0 ∷ 1 ∷ 0 ∷ 0 ∷ 0 ∷ 2 ∷ 3 ∷ [])
+          ∷ (77 ∷ 79 ∷ 0 ∷ 3 ∷ 0 ∷ 0 ∷ 0 ∷ 3 ∷ 2 ∷ 0 ∷ 5 ∷ [])
+          ∷ (65 ∷ 71 ∷ 0 ∷ 35 ∷ 0 ∷ 0 ∷ 0 ∷ 4 ∷ 2 ∷ 0 ∷ 6 ∷ 1 ∷ 1 ∷ 0 ∷ 0 ∷ 1 ∷ 0 ∷ 1 ∷ 0 ∷ 0 ∷ 0 ∷ 8 ∷ 2 ∷ 1 ∷ 0 ∷ 0 ∷ 1 ∷ 0 ∷ 1 ∷ 0 ∷ 0 ∷ 0 ∷ 7 ∷ 5 ∷ 0 ∷ 0 ∷ 1 ∷ 0 ∷ 1 ∷ 0 ∷ 0 ∷ 0 ∷ 9 ∷ [])
+          ∷ (65 ∷ 71 ∷ 0 ∷ 25 ∷ 0 ∷ 0 ∷ 0 ∷ 5 ∷ 2 ∷ 0 ∷ 7 ∷ 1 ∷ 3 ∷ 0 ∷ 0 ∷ 1 ∷ 0 ∷ 1 ∷ 0 ∷ 0 ∷ 0 ∷ 9 ∷ 1 ∷ 5 ∷ 0 ∷ 0 ∷ 1 ∷ 0 ∷ 1 ∷ 0 ∷ 0 ∷ 0 ∷ 10 ∷ [])
+          -- 128 tuples
+          ∷ (65 ∷ 71 ∷ 0 ∷ 58 ∷ 0 ∷ 0 ∷ 0 ∷ 6 ∷ 2 ∷ 0 ∷ 5 ∷ 1 ∷ 0 ∷ 8 ∷ 5 ∷ 0 ∷ 0 ∷ 1 ∷ 0 ∷ 1 ∷ 0 ∷ 0 ∷ 0 ∷ 7 ∷ 7 ∷ 0 ∷ 0 ∷ 0 ∷ 0 ∷ 0 ∷ 7 ∷ 0 ∷ 0 ∷ 0 ∷ 0 ∷ 0 ∷ 7 ∷ 0 ∷ 0 ∷ 0 ∷ 0 ∷ 0 ∷ 7 ∷ 0 ∷ 0 ∷ 0 ∷ 0 ∷ 0 ∷ 7 ∷ 0 ∷ 0 ∷ 0 ∷ 0 ∷ 0 ∷ 7 ∷ 0 ∷ 0 ∷ 0 ∷ 0 ∷ 0 ∷ 7 ∷ 0 ∷ 0 ∷ 0 ∷ 0 ∷ 0 ∷ [])
+          -- 512 tuples
+          ∷ (65 ∷ 71 ∷ 0 ∷ 18 ∷ 0 ∷ 0 ∷ 0 ∷ 7 ∷ 2 ∷ 0 ∷ 5 ∷ 1 ∷ 0 ∷ 2 ∷ 7 ∷ 0 ∷ 0 ∷ 0 ∷ 0 ∷ 0 ∷ 7 ∷ 0 ∷ 0 ∷ 0 ∷ 0 ∷ 0 ∷ [])
+          ∷ (67 ∷ 82 ∷ 0 ∷ 1 ∷ 0 ∷ 0 ∷ 0 ∷ 8 ∷ 3 ∷ [])
+          ∷ (65 ∷ 71 ∷ 0 ∷ 25 ∷ 0 ∷ 0 ∷ 0 ∷ 9 ∷ 2 ∷ 0 ∷ 5 ∷ 1 ∷ 1 ∷ 0 ∷ 0 ∷ 1 ∷ 0 ∷ 1 ∷ 0 ∷ 0 ∷ 0 ∷ 7 ∷ 1 ∷ 5 ∷ 0 ∷ 0 ∷ 1 ∷ 0 ∷ 1 ∷ 0 ∷ 0 ∷ 0 ∷ 8 ∷ [])
+          ∷ [];
+      shows = record {
+        answers = replies (82 ∷ 80 ∷ 0 ∷ 0 ∷ 0 ∷ 1 ∷ 2 ∷ 0 ∷ 0 ∷ 0 ∷ 0 ∷ 1 ∷ 0 ∷ 0 ∷ 0 ∷ 0 ∷ 0 ∷ 1 ∷ [])
+            ∷ replies (82 ∷ 80 ∷ 0 ∷ 0 ∷ 0 ∷ 2 ∷ 3 ∷ 0 ∷ 0 ∷ 0 ∷ 0 ∷ 1 ∷ 0 ∷ 0 ∷ 0 ∷ 0 ∷ 0 ∷ 2 ∷ [])
+            ∷ replies (82 ∷ 80 ∷ 0 ∷ 0 ∷ 0 ∷ 3 ∷ 2 ∷ 0 ∷ 5 ∷ 0 ∷ 0 ∷ 1 ∷ 0 ∷ 0 ∷ 0 ∷ 0 ∷ 0 ∷ 1 ∷ [])
+            ∷ replies []
+            ∷ replies []
+            ∷ replies (82 ∷ 80 ∷ 0 ∷ 0 ∷ 0 ∷ 6 ∷ 2 ∷ 0 ∷ 5 ∷ 0 ∷ 1 ∷ 0 ∷ [])
+            ∷ replies (82 ∷ 80 ∷ 0 ∷ 0 ∷ 0 ∷ 7 ∷ 2 ∷ 0 ∷ 5 ∷ 0 ∷ 1 ∷ 0 ∷ [])
+            ∷ replies (82 ∷ 80 ∷ 0 ∷ 0 ∷ 0 ∷ 8 ∷ 3 ∷ 0 ∷ 0 ∷ 0 ∷ 0 ∷ 1 ∷ 0 ∷ 0 ∷ 0 ∷ 0 ∷ 0 ∷ 1 ∷ [])
+            ∷ replies (82 ∷ 80 ∷ 0 ∷ 0 ∷ 0 ∷ 9 ∷ 2 ∷ 0 ∷ 5 ∷ 0 ∷ 1 ∷ 0 ∷ 82 ∷ 80 ∷ 0 ∷ 0 ∷ 0 ∷ 4 ∷ 2 ∷ 0 ∷ 6 ∷ 0 ∷ 1 ∷ 0 ∷ 82 ∷ 80 ∷ 0 ∷ 0 ∷ 0 ∷ 5 ∷ 2 ∷ 0 ∷ 7 ∷ 12 ∷ 1 ∷ 0 ∷ [])
+            ∷ [];
+        tupleCount = 512;
+        tuples = record { space = 0; values = value 1 7 ∷ [] } ∷ record { space = 0; values = value 1 7 ∷ [] } ∷ record { space = 0; values = value 1 7 ∷ [] } ∷ record { space = 0; values = value 1 7 ∷ [] } ∷ record { space = 0; values = value 1 7 ∷ [] } ∷ record { space = 0; values = value 1 7 ∷ [] } ∷ record { space = 0; values = value 1 7 ∷ [] } ∷ record { space = 0; values = value 1 7 ∷ [] } ∷ [];
+        newest = record { space = 0; values = value 1 7 ∷ [] } ∷ record { space = 0; values = value 1 7 ∷ [] } ∷ record { space = 0; values = value 1 7 ∷ [] } ∷ record { space = 0; values = value 1 7 ∷ [] } ∷ record { space = 0; values = value 1 7 ∷ [] } ∷ record { space = 0; values = value 1 7 ∷ [] } ∷ record { space = 0; values = value 1 9 ∷ [] } ∷ record { space = 0; values = value 1 1 ∷ value 0 1 ∷ value 0 3 ∷ [] } ∷ [];
+        waiting = [];
+        spaces = record { number = 0; access = shared } ∷ [];
+        owed = [];
+      };
+    }
+    -- a laid tuple that a woken statement takes lets the next one be laid, in the same record: of three pairs, two are taken and one lies
+    ∷ record {
+      stream = (82 ∷ 86 ∷ 0 ∷ 1 ∷ 0 ∷ 0 ∷ 0 ∷ 1 ∷ 2 ∷ [])
+          ∷ (82 ∷ 86 ∷ 0 ∷ 1 ∷ 0 ∷ 0 ∷ 0 ∷ 2 ∷ 3 ∷ [])
+          ∷ (77 ∷ 79 ∷ 0 ∷ 3 ∷ 0 ∷ 0 ∷ 0 ∷ 3 ∷ 2 ∷ 0 ∷ 5 ∷ [])
+          ∷ (77 ∷ 79 ∷ 0 ∷ 3 ∷ 0 ∷ 0 ∷ 0 ∷ 4 ∷ 2 ∷ 0 ∷ 5 ∷ [])
+          ∷ (77 ∷ 79 ∷ 0 ∷ 3 ∷ 0 ∷ 0 ∷ 0 ∷ 5 ∷ 2 ∷ 0 ∷ 5 ∷ [])
+          ∷ (65 ∷ 71 ∷ 0 ∷ 21 ∷ 0 ∷ 0 ∷ 0 ∷ 6 ∷ 2 ∷ 0 ∷ 6 ∷ 1 ∷ 1 ∷ 0 ∷ 0 ∷ 3 ∷ 0 ∷ 1 ∷ 0 ∷ 0 ∷ 0 ∷ 1 ∷ 1 ∷ 0 ∷ 0 ∷ 1 ∷ 0 ∷ 1 ∷ 0 ∷ [])
+          ∷ (65 ∷ 71 ∷ 0 ∷ 21 ∷ 0 ∷ 0 ∷ 0 ∷ 7 ∷ 2 ∷ 0 ∷ 7 ∷ 1 ∷ 1 ∷ 0 ∷ 0 ∷ 3 ∷ 0 ∷ 1 ∷ 0 ∷ 0 ∷ 0 ∷ 1 ∷ 1 ∷ 0 ∷ 0 ∷ 1 ∷ 0 ∷ 1 ∷ 0 ∷ [])
+          -- 128 tuples
+          ∷ (65 ∷ 71 ∷ 0 ∷ 58 ∷ 0 ∷ 0 ∷ 0 ∷ 8 ∷ 2 ∷ 0 ∷ 5 ∷ 1 ∷ 0 ∷ 8 ∷ 5 ∷ 0 ∷ 0 ∷ 1 ∷ 0 ∷ 1 ∷ 0 ∷ 0 ∷ 0 ∷ 7 ∷ 7 ∷ 0 ∷ 0 ∷ 0 ∷ 0 ∷ 0 ∷ 7 ∷ 0 ∷ 0 ∷ 0 ∷ 0 ∷ 0 ∷ 7 ∷ 0 ∷ 0 ∷ 0 ∷ 0 ∷ 0 ∷ 7 ∷ 0 ∷ 0 ∷ 0 ∷ 0 ∷ 0 ∷ 7 ∷ 0 ∷ 0 ∷ 0 ∷ 0 ∷ 0 ∷ 7 ∷ 0 ∷ 0 ∷ 0 ∷ 0 ∷ 0 ∷ 7 ∷ 0 ∷ 0 ∷ 0 ∷ 0 ∷ 0 ∷ [])
+          -- 512 tuples
+          ∷ (65 ∷ 71 ∷ 0 ∷ 18 ∷ 0 ∷ 0 ∷ 0 ∷ 9 ∷ 2 ∷ 0 ∷ 5 ∷ 1 ∷ 0 ∷ 2 ∷ 7 ∷ 0 ∷ 0 ∷ 0 ∷ 0 ∷ 0 ∷ 7 ∷ 0 ∷ 0 ∷ 0 ∷ 0 ∷ 0 ∷ [])
+          ∷ (67 ∷ 82 ∷ 0 ∷ 1 ∷ 0 ∷ 0 ∷ 0 ∷ 10 ∷ 3 ∷ [])
+          ∷ (65 ∷ 71 ∷ 0 ∷ 15 ∷ 0 ∷ 0 ∷ 0 ∷ 11 ∷ 2 ∷ 0 ∷ 5 ∷ 1 ∷ 1 ∷ 0 ∷ 0 ∷ 1 ∷ 0 ∷ 1 ∷ 0 ∷ 0 ∷ 0 ∷ 7 ∷ 0 ∷ [])
+          ∷ [];
+      shows = record {
+        answers = replies (82 ∷ 80 ∷ 0 ∷ 0 ∷ 0 ∷ 1 ∷ 2 ∷ 0 ∷ 0 ∷ 0 ∷ 0 ∷ 1 ∷ 0 ∷ 0 ∷ 0 ∷ 0 ∷ 0 ∷ 1 ∷ [])
+            ∷ replies (82 ∷ 80 ∷ 0 ∷ 0 ∷ 0 ∷ 2 ∷ 3 ∷ 0 ∷ 0 ∷ 0 ∷ 0 ∷ 1 ∷ 0 ∷ 0 ∷ 0 ∷ 0 ∷ 0 ∷ 2 ∷ [])
+            ∷ replies (82 ∷ 80 ∷ 0 ∷ 0 ∷ 0 ∷ 3 ∷ 2 ∷ 0 ∷ 5 ∷ 0 ∷ 0 ∷ 1 ∷ 0 ∷ 0 ∷ 0 ∷ 0 ∷ 0 ∷ 1 ∷ [])
+            ∷ replies (82 ∷ 80 ∷ 0 ∷ 0 ∷ 0 ∷ 4 ∷ 2 ∷ 0 ∷ 5 ∷ 0 ∷ 0 ∷ 1 ∷ 0 ∷ 0 ∷ 0 ∷ 0 ∷ 0 ∷ 2 ∷ [])
+            ∷ replies (82 ∷ 80 ∷ 0 ∷ 0 ∷ 0 ∷ 5 ∷ 2 ∷ 0 ∷ 5 ∷ 0 ∷ 0 ∷ 1 ∷ 0 ∷ 0 ∷ 0 ∷ 0 ∷ 0 ∷ 3 ∷ [])
+            ∷ replies []
+            ∷ replies []
+            ∷ replies (82 ∷ 80 ∷ 0 ∷ 0 ∷ 0 ∷ 8 ∷ 2 ∷ 0 ∷ 5 ∷ 0 ∷ 1 ∷ 0 ∷ [])
+            ∷ replies (82 ∷ 80 ∷ 0 ∷ 0 ∷ 0 ∷ 9 ∷ 2 ∷ 0 ∷ 5 ∷ 0 ∷ 1 ∷ 0 ∷ [])
+            ∷ replies (82 ∷ 80 ∷ 0 ∷ 0 ∷ 0 ∷ 10 ∷ 3 ∷ 0 ∷ 0 ∷ 0 ∷ 0 ∷ 1 ∷ 0 ∷ 0 ∷ 0 ∷ 0 ∷ 0 ∷ 1 ∷ [])
+            ∷ replies (82 ∷ 80 ∷ 0 ∷ 0 ∷ 0 ∷ 11 ∷ 2 ∷ 0 ∷ 5 ∷ 0 ∷ 1 ∷ 0 ∷ 82 ∷ 80 ∷ 0 ∷ 0 ∷ 0 ∷ 6 ∷ 2 ∷ 0 ∷ 6 ∷ 0 ∷ 1 ∷ 2 ∷ 0 ∷ 0 ∷ 0 ∷ 0 ∷ 0 ∷ 1 ∷ 1 ∷ 0 ∷ 0 ∷ 0 ∷ 0 ∷ 3 ∷ 82 ∷ 80 ∷ 0 ∷ 0 ∷ 0 ∷ 7 ∷ 2 ∷ 0 ∷ 7 ∷ 0 ∷ 1 ∷ 2 ∷ 0 ∷ 0 ∷ 0 ∷ 0 ∷ 0 ∷ 2 ∷ 1 ∷ 0 ∷ 0 ∷ 0 ∷ 0 ∷ 3 ∷ [])
+            ∷ [];
+        tupleCount = 512;
+        tuples = record { space = 0; values = value 1 7 ∷ [] } ∷ record { space = 0; values = value 1 7 ∷ [] } ∷ record { space = 0; values = value 1 7 ∷ [] } ∷ record { space = 0; values = value 1 7 ∷ [] } ∷ record { space = 0; values = value 1 7 ∷ [] } ∷ record { space = 0; values = value 1 7 ∷ [] } ∷ record { space = 0; values = value 1 7 ∷ [] } ∷ record { space = 0; values = value 1 7 ∷ [] } ∷ [];
+        newest = record { space = 0; values = value 1 7 ∷ [] } ∷ record { space = 0; values = value 1 7 ∷ [] } ∷ record { space = 0; values = value 1 7 ∷ [] } ∷ record { space = 0; values = value 1 7 ∷ [] } ∷ record { space = 0; values = value 1 7 ∷ [] } ∷ record { space = 0; values = value 1 7 ∷ [] } ∷ record { space = 0; values = value 1 7 ∷ [] } ∷ record { space = 0; values = value 1 1 ∷ value 0 3 ∷ value 0 3 ∷ [] } ∷ [];
+        waiting = [];
+        spaces = record { number = 0; access = shared } ∷ [];
+        owed = [];
+      };
+    }
+    -- a crash at 511 with two monitors: the first is appended and taken by a statement that waited, and the second, owed till then, is laid
+    ∷ record {
+      stream = (82 ∷ 86 ∷ 0 ∷ 1 ∷ 0 ∷ 0 ∷ 0 ∷ 1 ∷ 2 ∷ [])
+          ∷ (82 ∷ 86 ∷ 0 ∷ 1 ∷ 0 ∷ 0 ∷ 0 ∷ 2 ∷ 3 ∷ [])
+          ∷ (77 ∷ 79 ∷ 0 ∷ 3 ∷ 0 ∷ 0 ∷ 0 ∷ 3 ∷ 2 ∷ 0 ∷ 5 ∷ [])
+          ∷ (77 ∷ 79 ∷ 0 ∷ 3 ∷ 0 ∷ 0 ∷ 0 ∷ 4 ∷ 2 ∷ 0 ∷ 5 ∷ [])
+          ∷ (65 ∷ 71 ∷ 0 ∷ 21 ∷ 0 ∷ 0 ∷ 0 ∷ 5 ∷ 2 ∷ 0 ∷ 6 ∷ 1 ∷ 1 ∷ 0 ∷ 0 ∷ 3 ∷ 0 ∷ 1 ∷ 0 ∷ 0 ∷ 0 ∷ 1 ∷ 1 ∷ 0 ∷ 0 ∷ 1 ∷ 0 ∷ 1 ∷ 0 ∷ [])
+          -- 128 tuples
+          ∷ (65 ∷ 71 ∷ 0 ∷ 58 ∷ 0 ∷ 0 ∷ 0 ∷ 6 ∷ 2 ∷ 0 ∷ 5 ∷ 1 ∷ 0 ∷ 8 ∷ 5 ∷ 0 ∷ 0 ∷ 1 ∷ 0 ∷ 1 ∷ 0 ∷ 0 ∷ 0 ∷ 7 ∷ 7 ∷ 0 ∷ 0 ∷ 0 ∷ 0 ∷ 0 ∷ 7 ∷ 0 ∷ 0 ∷ 0 ∷ 0 ∷ 0 ∷ 7 ∷ 0 ∷ 0 ∷ 0 ∷ 0 ∷ 0 ∷ 7 ∷ 0 ∷ 0 ∷ 0 ∷ 0 ∷ 0 ∷ 7 ∷ 0 ∷ 0 ∷ 0 ∷ 0 ∷ 0 ∷ 7 ∷ 0 ∷ 0 ∷ 0 ∷ 0 ∷ 0 ∷ 7 ∷ 0 ∷ 0 ∷ 0 ∷ 0 ∷ 0 ∷ [])
+          -- 512 tuples
+          ∷ (65 ∷ 71 ∷ 0 ∷ 18 ∷ 0 ∷ 0 ∷ 0 ∷ 7 ∷ 2 ∷ 0 ∷ 5 ∷ 1 ∷ 0 ∷ 2 ∷ 7 ∷ 0 ∷ 0 ∷ 0 ∷ 0 ∷ 0 ∷ 7 ∷ 0 ∷ 0 ∷ 0 ∷ 0 ∷ 0 ∷ [])
+          ∷ (65 ∷ 71 ∷ 0 ∷ 15 ∷ 0 ∷ 0 ∷ 0 ∷ 8 ∷ 2 ∷ 0 ∷ 5 ∷ 1 ∷ 1 ∷ 0 ∷ 0 ∷ 1 ∷ 0 ∷ 1 ∷ 0 ∷ 0 ∷ 0 ∷ 7 ∷ 0 ∷ [])
+          ∷ (67 ∷ 82 ∷ 0 ∷ 1 ∷ 0 ∷ 0 ∷ 0 ∷ 9 ∷ 3 ∷ [])
+          ∷ [];
+      shows = record {
+        answers = replies (82 ∷ 80 ∷ 0 ∷ 0 ∷ 0 ∷ 1 ∷ 2 ∷ 0 ∷ 0 ∷ 0 ∷ 0 ∷ 1 ∷ 0 ∷ 0 ∷ 0 ∷ 0 ∷ 0 ∷ 1 ∷ [])
+            ∷ replies (82 ∷ 80 ∷ 0 ∷ 0 ∷ 0 ∷ 2 ∷ 3 ∷ 0 ∷ 0 ∷ 0 ∷ 0 ∷ 1 ∷ 0 ∷ 0 ∷ 0 ∷ 0 ∷ 0 ∷ 2 ∷ [])
+            ∷ replies (82 ∷ 80 ∷ 0 ∷ 0 ∷ 0 ∷ 3 ∷ 2 ∷ 0 ∷ 5 ∷ 0 ∷ 0 ∷ 1 ∷ 0 ∷ 0 ∷ 0 ∷ 0 ∷ 0 ∷ 1 ∷ [])
+            ∷ replies (82 ∷ 80 ∷ 0 ∷ 0 ∷ 0 ∷ 4 ∷ 2 ∷ 0 ∷ 5 ∷ 0 ∷ 0 ∷ 1 ∷ 0 ∷ 0 ∷ 0 ∷ 0 ∷ 0 ∷ 2 ∷ [])
+            ∷ replies []
+            ∷ replies (82 ∷ 80 ∷ 0 ∷ 0 ∷ 0 ∷ 6 ∷ 2 ∷ 0 ∷ 5 ∷ 0 ∷ 1 ∷ 0 ∷ [])
+            ∷ replies (82 ∷ 80 ∷ 0 ∷ 0 ∷ 0 ∷ 7 ∷ 2 ∷ 0 ∷ 5 ∷ 0 ∷ 1 ∷ 0 ∷ [])
+            ∷ replies (82 ∷ 80 ∷ 0 ∷ 0 ∷ 0 ∷ 8 ∷ 2 ∷ 0 ∷ 5 ∷ 0 ∷ 1 ∷ 0 ∷ [])
+            ∷ replies (82 ∷ 80 ∷ 0 ∷ 0 ∷ 0 ∷ 9 ∷ 3 ∷ 0 ∷ 0 ∷ 0 ∷ 0 ∷ 1 ∷ 0 ∷ 0 ∷ 0 ∷ 0 ∷ 0 ∷ 1 ∷ 82 ∷ 80 ∷ 0 ∷ 0 ∷ 0 ∷ 5 ∷ 2 ∷ 0 ∷ 6 ∷ 0 ∷ 1 ∷ 2 ∷ 0 ∷ 0 ∷ 0 ∷ 0 ∷ 0 ∷ 1 ∷ 1 ∷ 0 ∷ 0 ∷ 0 ∷ 0 ∷ 3 ∷ [])
+            ∷ [];
+        tupleCount = 512;
+        tuples = record { space = 0; values = value 1 7 ∷ [] } ∷ record { space = 0; values = value 1 7 ∷ [] } ∷ record { space = 0; values = value 1 7 ∷ [] } ∷ record { space = 0; values = value 1 7 ∷ [] } ∷ record { space = 0; values = value 1 7 ∷ [] } ∷ record { space = 0; values = value 1 7 ∷ [] } ∷ record { space = 0; values = value 1 7 ∷ [] } ∷ record { space = 0; values = value 1 7 ∷ [] } ∷ [];
+        newest = record { space = 0; values = value 1 7 ∷ [] } ∷ record { space = 0; values = value 1 7 ∷ [] } ∷ record { space = 0; values = value 1 7 ∷ [] } ∷ record { space = 0; values = value 1 7 ∷ [] } ∷ record { space = 0; values = value 1 7 ∷ [] } ∷ record { space = 0; values = value 1 7 ∷ [] } ∷ record { space = 0; values = value 1 7 ∷ [] } ∷ record { space = 0; values = value 1 1 ∷ value 0 2 ∷ value 0 3 ∷ [] } ∷ [];
+        waiting = [];
+        spaces = record { number = 0; access = shared } ∷ [];
+        owed = [];
+      };
+    }
+    -- DS frees two places, three pairs are owed: two are laid, one stays
+    ∷ record {
+      stream = (82 ∷ 86 ∷ 0 ∷ 1 ∷ 0 ∷ 0 ∷ 0 ∷ 1 ∷ 2 ∷ [])
+          ∷ (82 ∷ 86 ∷ 0 ∷ 1 ∷ 0 ∷ 0 ∷ 0 ∷ 2 ∷ 3 ∷ [])
+          ∷ (77 ∷ 79 ∷ 0 ∷ 3 ∷ 0 ∷ 0 ∷ 0 ∷ 3 ∷ 2 ∷ 0 ∷ 5 ∷ [])
+          ∷ (77 ∷ 79 ∷ 0 ∷ 3 ∷ 0 ∷ 0 ∷ 0 ∷ 4 ∷ 2 ∷ 0 ∷ 5 ∷ [])
+          ∷ (77 ∷ 79 ∷ 0 ∷ 3 ∷ 0 ∷ 0 ∷ 0 ∷ 5 ∷ 2 ∷ 0 ∷ 5 ∷ [])
+          ∷ (77 ∷ 83 ∷ 0 ∷ 3 ∷ 0 ∷ 0 ∷ 0 ∷ 6 ∷ 2 ∷ 0 ∷ 5 ∷ [])
+          -- 128 tuples
+          ∷ (65 ∷ 71 ∷ 0 ∷ 58 ∷ 0 ∷ 0 ∷ 0 ∷ 7 ∷ 2 ∷ 0 ∷ 5 ∷ 1 ∷ 0 ∷ 8 ∷ 5 ∷ 0 ∷ 0 ∷ 1 ∷ 0 ∷ 1 ∷ 0 ∷ 0 ∷ 0 ∷ 7 ∷ 7 ∷ 0 ∷ 0 ∷ 0 ∷ 0 ∷ 0 ∷ 7 ∷ 0 ∷ 0 ∷ 0 ∷ 0 ∷ 0 ∷ 7 ∷ 0 ∷ 0 ∷ 0 ∷ 0 ∷ 0 ∷ 7 ∷ 0 ∷ 0 ∷ 0 ∷ 0 ∷ 0 ∷ 7 ∷ 0 ∷ 0 ∷ 0 ∷ 0 ∷ 0 ∷ 7 ∷ 0 ∷ 0 ∷ 0 ∷ 0 ∷ 0 ∷ 7 ∷ 0 ∷ 0 ∷ 0 ∷ 0 ∷ 0 ∷ [])
+          -- 512 tuples
+          ∷ (65 ∷ 71 ∷ 0 ∷ 18 ∷ 0 ∷ 0 ∷ 0 ∷ 8 ∷ 2 ∷ 0 ∷ 5 ∷ 1 ∷ 0 ∷ 2 ∷ 7 ∷ 0 ∷ 0 ∷ 0 ∷ 0 ∷ 0 ∷ 7 ∷ 0 ∷ 0 ∷ 0 ∷ 0 ∷ 0 ∷ [])
+          ∷ (65 ∷ 71 ∷ 0 ∷ 45 ∷ 0 ∷ 0 ∷ 0 ∷ 9 ∷ 2 ∷ 0 ∷ 5 ∷ 1 ∷ 1 ∷ 0 ∷ 0 ∷ 1 ∷ 0 ∷ 1 ∷ 0 ∷ 0 ∷ 0 ∷ 7 ∷ 3 ∷ 1 ∷ 0 ∷ 0 ∷ 1 ∷ 0 ∷ 1 ∷ 0 ∷ 0 ∷ 0 ∷ 7 ∷ 5 ∷ 0 ∷ 1 ∷ 1 ∷ 0 ∷ 1 ∷ 0 ∷ 0 ∷ 0 ∷ 8 ∷ 5 ∷ 0 ∷ 1 ∷ 1 ∷ 0 ∷ 1 ∷ 0 ∷ 0 ∷ 0 ∷ 8 ∷ [])
+          ∷ (67 ∷ 82 ∷ 0 ∷ 1 ∷ 0 ∷ 0 ∷ 0 ∷ 10 ∷ 3 ∷ [])
+          ∷ (68 ∷ 83 ∷ 0 ∷ 5 ∷ 0 ∷ 0 ∷ 0 ∷ 11 ∷ 2 ∷ 0 ∷ 5 ∷ 0 ∷ 1 ∷ [])
+          ∷ [];
+      shows = record {
+        answers = replies (82 ∷ 80 ∷ 0 ∷ 0 ∷ 0 ∷ 1 ∷ 2 ∷ 0 ∷ 0 ∷ 0 ∷ 0 ∷ 1 ∷ 0 ∷ 0 ∷ 0 ∷ 0 ∷ 0 ∷ 1 ∷ [])
+            ∷ replies (82 ∷ 80 ∷ 0 ∷ 0 ∷ 0 ∷ 2 ∷ 3 ∷ 0 ∷ 0 ∷ 0 ∷ 0 ∷ 1 ∷ 0 ∷ 0 ∷ 0 ∷ 0 ∷ 0 ∷ 2 ∷ [])
+            ∷ replies (82 ∷ 80 ∷ 0 ∷ 0 ∷ 0 ∷ 3 ∷ 2 ∷ 0 ∷ 5 ∷ 0 ∷ 0 ∷ 1 ∷ 0 ∷ 0 ∷ 0 ∷ 0 ∷ 0 ∷ 1 ∷ [])
+            ∷ replies (82 ∷ 80 ∷ 0 ∷ 0 ∷ 0 ∷ 4 ∷ 2 ∷ 0 ∷ 5 ∷ 0 ∷ 0 ∷ 1 ∷ 0 ∷ 0 ∷ 0 ∷ 0 ∷ 0 ∷ 2 ∷ [])
+            ∷ replies (82 ∷ 80 ∷ 0 ∷ 0 ∷ 0 ∷ 5 ∷ 2 ∷ 0 ∷ 5 ∷ 0 ∷ 0 ∷ 1 ∷ 0 ∷ 0 ∷ 0 ∷ 0 ∷ 0 ∷ 3 ∷ [])
+            ∷ replies (82 ∷ 80 ∷ 0 ∷ 0 ∷ 0 ∷ 6 ∷ 2 ∷ 0 ∷ 5 ∷ 0 ∷ 0 ∷ 1 ∷ 0 ∷ 0 ∷ 0 ∷ 0 ∷ 0 ∷ 1 ∷ [])
+            ∷ replies (82 ∷ 80 ∷ 0 ∷ 0 ∷ 0 ∷ 7 ∷ 2 ∷ 0 ∷ 5 ∷ 0 ∷ 1 ∷ 0 ∷ [])
+            ∷ replies (82 ∷ 80 ∷ 0 ∷ 0 ∷ 0 ∷ 8 ∷ 2 ∷ 0 ∷ 5 ∷ 0 ∷ 1 ∷ 0 ∷ [])
+            ∷ replies (82 ∷ 80 ∷ 0 ∷ 0 ∷ 0 ∷ 9 ∷ 2 ∷ 0 ∷ 5 ∷ 0 ∷ 1 ∷ 0 ∷ [])
+            ∷ replies (82 ∷ 80 ∷ 0 ∷ 0 ∷ 0 ∷ 10 ∷ 3 ∷ 0 ∷ 0 ∷ 0 ∷ 0 ∷ 1 ∷ 0 ∷ 0 ∷ 0 ∷ 0 ∷ 0 ∷ 1 ∷ [])
+            ∷ replies (82 ∷ 80 ∷ 0 ∷ 0 ∷ 0 ∷ 11 ∷ 2 ∷ 0 ∷ 5 ∷ 0 ∷ 0 ∷ 0 ∷ [])
+            ∷ [];
+        tupleCount = 512;
+        tuples = record { space = 0; values = value 1 7 ∷ [] } ∷ record { space = 0; values = value 1 7 ∷ [] } ∷ record { space = 0; values = value 1 7 ∷ [] } ∷ record { space = 0; values = value 1 7 ∷ [] } ∷ record { space = 0; values = value 1 7 ∷ [] } ∷ record { space = 0; values = value 1 7 ∷ [] } ∷ record { space = 0; values = value 1 7 ∷ [] } ∷ record { space = 0; values = value 1 7 ∷ [] } ∷ [];
+        newest = record { space = 0; values = value 1 7 ∷ [] } ∷ record { space = 0; values = value 1 7 ∷ [] } ∷ record { space = 0; values = value 1 7 ∷ [] } ∷ record { space = 0; values = value 1 7 ∷ [] } ∷ record { space = 0; values = value 1 7 ∷ [] } ∷ record { space = 0; values = value 1 7 ∷ [] } ∷ record { space = 0; values = value 1 1 ∷ value 0 1 ∷ value 0 3 ∷ [] } ∷ record { space = 0; values = value 1 1 ∷ value 0 2 ∷ value 0 3 ∷ [] } ∷ [];
+        waiting = [];
+        spaces = record { number = 0; access = shared } ∷ [];
+        owed = (3, 3) ∷ [];
+      };
+    }
+    -- DS frees one place, the debt is laid, and a statement that waited for it wakes
+    ∷ record {
+      stream = (82 ∷ 86 ∷ 0 ∷ 1 ∷ 0 ∷ 0 ∷ 0 ∷ 1 ∷ 2 ∷ [])
+          ∷ (82 ∷ 86 ∷ 0 ∷ 1 ∷ 0 ∷ 0 ∷ 0 ∷ 2 ∷ 3 ∷ [])
+          ∷ (77 ∷ 79 ∷ 0 ∷ 3 ∷ 0 ∷ 0 ∷ 0 ∷ 3 ∷ 2 ∷ 0 ∷ 5 ∷ [])
+          ∷ (77 ∷ 83 ∷ 0 ∷ 3 ∷ 0 ∷ 0 ∷ 0 ∷ 4 ∷ 2 ∷ 0 ∷ 5 ∷ [])
+          ∷ (65 ∷ 71 ∷ 0 ∷ 21 ∷ 0 ∷ 0 ∷ 0 ∷ 5 ∷ 2 ∷ 0 ∷ 6 ∷ 1 ∷ 1 ∷ 0 ∷ 0 ∷ 3 ∷ 0 ∷ 1 ∷ 0 ∷ 0 ∷ 0 ∷ 1 ∷ 1 ∷ 0 ∷ 0 ∷ 1 ∷ 0 ∷ 1 ∷ 0 ∷ [])
+          -- 128 tuples
+          ∷ (65 ∷ 71 ∷ 0 ∷ 58 ∷ 0 ∷ 0 ∷ 0 ∷ 6 ∷ 2 ∷ 0 ∷ 5 ∷ 1 ∷ 0 ∷ 8 ∷ 5 ∷ 0 ∷ 0 ∷ 1 ∷ 0 ∷ 1 ∷ 0 ∷ 0 ∷ 0 ∷ 7 ∷ 7 ∷ 0 ∷ 0 ∷ 0 ∷ 0 ∷ 0 ∷ 7 ∷ 0 ∷ 0 ∷ 0 ∷ 0 ∷ 0 ∷ 7 ∷ 0 ∷ 0 ∷ 0 ∷ 0 ∷ 0 ∷ 7 ∷ 0 ∷ 0 ∷ 0 ∷ 0 ∷ 0 ∷ 7 ∷ 0 ∷ 0 ∷ 0 ∷ 0 ∷ 0 ∷ 7 ∷ 0 ∷ 0 ∷ 0 ∷ 0 ∷ 0 ∷ 7 ∷ 0 ∷ 0 ∷ 0 ∷ 0 ∷ 0 ∷ [])
+          -- 512 tuples
+          ∷ (65 ∷ 71 ∷ 0 ∷ 18 ∷ 0 ∷ 0 ∷ 0 ∷ 7 ∷ 2 ∷ 0 ∷ 5 ∷ 1 ∷ 0 ∷ 2 ∷ 7 ∷ 0 ∷ 0 ∷ 0 ∷ 0 ∷ 0 ∷ 7 ∷ 0 ∷ 0 ∷ 0 ∷ 0 ∷ 0 ∷ [])
+          ∷ (65 ∷ 71 ∷ 0 ∷ 25 ∷ 0 ∷ 0 ∷ 0 ∷ 8 ∷ 2 ∷ 0 ∷ 5 ∷ 1 ∷ 1 ∷ 0 ∷ 0 ∷ 1 ∷ 0 ∷ 1 ∷ 0 ∷ 0 ∷ 0 ∷ 7 ∷ 1 ∷ 5 ∷ 0 ∷ 1 ∷ 1 ∷ 0 ∷ 1 ∷ 0 ∷ 0 ∷ 0 ∷ 8 ∷ [])
+          ∷ (67 ∷ 82 ∷ 0 ∷ 1 ∷ 0 ∷ 0 ∷ 0 ∷ 9 ∷ 3 ∷ [])
+          ∷ (68 ∷ 83 ∷ 0 ∷ 5 ∷ 0 ∷ 0 ∷ 0 ∷ 10 ∷ 2 ∷ 0 ∷ 5 ∷ 0 ∷ 1 ∷ [])
+          ∷ [];
+      shows = record {
+        answers = replies (82 ∷ 80 ∷ 0 ∷ 0 ∷ 0 ∷ 1 ∷ 2 ∷ 0 ∷ 0 ∷ 0 ∷ 0 ∷ 1 ∷ 0 ∷ 0 ∷ 0 ∷ 0 ∷ 0 ∷ 1 ∷ [])
+            ∷ replies (82 ∷ 80 ∷ 0 ∷ 0 ∷ 0 ∷ 2 ∷ 3 ∷ 0 ∷ 0 ∷ 0 ∷ 0 ∷ 1 ∷ 0 ∷ 0 ∷ 0 ∷ 0 ∷ 0 ∷ 2 ∷ [])
+            ∷ replies (82 ∷ 80 ∷ 0 ∷ 0 ∷ 0 ∷ 3 ∷ 2 ∷ 0 ∷ 5 ∷ 0 ∷ 0 ∷ 1 ∷ 0 ∷ 0 ∷ 0 ∷ 0 ∷ 0 ∷ 1 ∷ [])
+            ∷ replies (82 ∷ 80 ∷ 0 ∷ 0 ∷ 0 ∷ 4 ∷ 2 ∷ 0 ∷ 5 ∷ 0 ∷ 0 ∷ 1 ∷ 0 ∷ 0 ∷ 0 ∷ 0 ∷ 0 ∷ 1 ∷ [])
+            ∷ replies []
+            ∷ replies (82 ∷ 80 ∷ 0 ∷ 0 ∷ 0 ∷ 6 ∷ 2 ∷ 0 ∷ 5 ∷ 0 ∷ 1 ∷ 0 ∷ [])
+            ∷ replies (82 ∷ 80 ∷ 0 ∷ 0 ∷ 0 ∷ 7 ∷ 2 ∷ 0 ∷ 5 ∷ 0 ∷ 1 ∷ 0 ∷ [])
+            ∷ replies (82 ∷ 80 ∷ 0 ∷ 0 ∷ 0 ∷ 8 ∷ 2 ∷ 0 ∷ 5 ∷ 0 ∷ 1 ∷ 0 ∷ [])
+            ∷ replies (82 ∷ 80 ∷ 0 ∷ 0 ∷ 0 ∷ 9 ∷ 3 ∷ 0 ∷ 0 ∷ 0 ∷ 0 ∷ 1 ∷ 0 ∷ 0 ∷ 0 ∷ 0 ∷ 0 ∷ 1 ∷ [])
+            ∷ replies (82 ∷ 80 ∷ 0 ∷ 0 ∷ 0 ∷ 10 ∷ 2 ∷ 0 ∷ 5 ∷ 0 ∷ 0 ∷ 0 ∷ 82 ∷ 80 ∷ 0 ∷ 0 ∷ 0 ∷ 5 ∷ 2 ∷ 0 ∷ 6 ∷ 0 ∷ 1 ∷ 2 ∷ 0 ∷ 0 ∷ 0 ∷ 0 ∷ 0 ∷ 1 ∷ 1 ∷ 0 ∷ 0 ∷ 0 ∷ 0 ∷ 3 ∷ [])
+            ∷ [];
+        tupleCount = 511;
+        tuples = record { space = 0; values = value 1 7 ∷ [] } ∷ record { space = 0; values = value 1 7 ∷ [] } ∷ record { space = 0; values = value 1 7 ∷ [] } ∷ record { space = 0; values = value 1 7 ∷ [] } ∷ record { space = 0; values = value 1 7 ∷ [] } ∷ record { space = 0; values = value 1 7 ∷ [] } ∷ record { space = 0; values = value 1 7 ∷ [] } ∷ record { space = 0; values = value 1 7 ∷ [] } ∷ [];
+        newest = record { space = 0; values = value 1 7 ∷ [] } ∷ record { space = 0; values = value 1 7 ∷ [] } ∷ record { space = 0; values = value 1 7 ∷ [] } ∷ record { space = 0; values = value 1 7 ∷ [] } ∷ record { space = 0; values = value 1 7 ∷ [] } ∷ record { space = 0; values = value 1 7 ∷ [] } ∷ record { space = 0; values = value 1 7 ∷ [] } ∷ record { space = 0; values = value 1 7 ∷ [] } ∷ [];
+        waiting = [];
+        spaces = record { number = 0; access = shared } ∷ [];
+        owed = [];
+      };
+    }
+    -- DS frees 100 places while nobody waits, 24 pairs are owed: all are laid, lowest monitor first, then lowest host
+    ∷ record {
+      stream = (82 ∷ 86 ∷ 0 ∷ 1 ∷ 0 ∷ 0 ∷ 0 ∷ 1 ∷ 2 ∷ [])
+          ∷ (82 ∷ 86 ∷ 0 ∷ 1 ∷ 0 ∷ 0 ∷ 0 ∷ 2 ∷ 0 ∷ [])
+          ∷ (82 ∷ 86 ∷ 0 ∷ 1 ∷ 0 ∷ 0 ∷ 0 ∷ 3 ∷ 7 ∷ [])
+          ∷ (82 ∷ 86 ∷ 0 ∷ 1 ∷ 0 ∷ 0 ∷ 0 ∷ 4 ∷ 15 ∷ [])
+          ∷ (77 ∷ 79 ∷ 0 ∷ 3 ∷ 0 ∷ 0 ∷ 0 ∷ 5 ∷ 2 ∷ 0 ∷ 5 ∷ [])
+          ∷ (77 ∷ 79 ∷ 0 ∷ 3 ∷ 0 ∷ 0 ∷ 0 ∷ 6 ∷ 2 ∷ 0 ∷ 5 ∷ [])
+          ∷ (77 ∷ 79 ∷ 0 ∷ 3 ∷ 0 ∷ 0 ∷ 0 ∷ 7 ∷ 2 ∷ 0 ∷ 5 ∷ [])
+          ∷ (77 ∷ 79 ∷ 0 ∷ 3 ∷ 0 ∷ 0 ∷ 0 ∷ 8 ∷ 2 ∷ 0 ∷ 5 ∷ [])
+          ∷ (77 ∷ 79 ∷ 0 ∷ 3 ∷ 0 ∷ 0 ∷ 0 ∷ 9 ∷ 2 ∷ 0 ∷ 5 ∷ [])
+          ∷ (77 ∷ 79 ∷ 0 ∷ 3 ∷ 0 ∷ 0 ∷ 0 ∷ 10 ∷ 2 ∷ 0 ∷ 5 ∷ [])
+          ∷ (77 ∷ 79 ∷ 0 ∷ 3 ∷ 0 ∷ 0 ∷ 0 ∷ 11 ∷ 2 ∷ 0 ∷ 5 ∷ [])
+          ∷ (77 ∷ 79 ∷ 0 ∷ 3 ∷ 0 ∷ 0 ∷ 0 ∷ 12 ∷ 2 ∷ 0 ∷ 5 ∷ [])
+          ∷ (77 ∷ 83 ∷ 0 ∷ 3 ∷ 0 ∷ 0 ∷ 0 ∷ 13 ∷ 2 ∷ 0 ∷ 5 ∷ [])
+          -- 4 and 16 tuples in space 1
+          ∷ (65 ∷ 71 ∷ 0 ∷ 86 ∷ 0 ∷ 0 ∷ 0 ∷ 14 ∷ 2 ∷ 0 ∷ 5 ∷ 1 ∷ 0 ∷ 8 ∷ 5 ∷ 0 ∷ 1 ∷ 1 ∷ 0 ∷ 1 ∷ 0 ∷ 0 ∷ 0 ∷ 4 ∷ 7 ∷ 0 ∷ 1 ∷ 0 ∷ 1 ∷ 0 ∷ 7 ∷ 0 ∷ 1 ∷ 0 ∷ 1 ∷ 0 ∷ 5 ∷ 0 ∷ 1 ∷ 1 ∷ 0 ∷ 1 ∷ 0 ∷ 0 ∷ 0 ∷ 5 ∷ 7 ∷ 0 ∷ 1 ∷ 0 ∷ 1 ∷ 1 ∷ 0 ∷ 1 ∷ 0 ∷ 0 ∷ 0 ∷ 5 ∷ 7 ∷ 0 ∷ 1 ∷ 0 ∷ 1 ∷ 1 ∷ 0 ∷ 1 ∷ 0 ∷ 0 ∷ 0 ∷ 5 ∷ 7 ∷ 0 ∷ 1 ∷ 0 ∷ 1 ∷ 1 ∷ 0 ∷ 1 ∷ 0 ∷ 0 ∷ 0 ∷ 5 ∷ 7 ∷ 0 ∷ 1 ∷ 0 ∷ 1 ∷ 1 ∷ 0 ∷ 1 ∷ 0 ∷ 0 ∷ 0 ∷ 5 ∷ [])
+          -- 4, 32 and 64 tuples in space 1
+          ∷ (65 ∷ 71 ∷ 0 ∷ 100 ∷ 0 ∷ 0 ∷ 0 ∷ 15 ∷ 2 ∷ 0 ∷ 5 ∷ 1 ∷ 0 ∷ 8 ∷ 7 ∷ 0 ∷ 1 ∷ 0 ∷ 1 ∷ 1 ∷ 0 ∷ 1 ∷ 0 ∷ 0 ∷ 0 ∷ 5 ∷ 5 ∷ 0 ∷ 1 ∷ 1 ∷ 0 ∷ 1 ∷ 0 ∷ 0 ∷ 0 ∷ 6 ∷ 7 ∷ 0 ∷ 1 ∷ 0 ∷ 1 ∷ 1 ∷ 0 ∷ 1 ∷ 0 ∷ 0 ∷ 0 ∷ 6 ∷ 7 ∷ 0 ∷ 1 ∷ 0 ∷ 1 ∷ 1 ∷ 0 ∷ 1 ∷ 0 ∷ 0 ∷ 0 ∷ 6 ∷ 7 ∷ 0 ∷ 1 ∷ 0 ∷ 1 ∷ 1 ∷ 0 ∷ 1 ∷ 0 ∷ 0 ∷ 0 ∷ 6 ∷ 7 ∷ 0 ∷ 1 ∷ 0 ∷ 1 ∷ 1 ∷ 0 ∷ 1 ∷ 0 ∷ 0 ∷ 0 ∷ 6 ∷ 7 ∷ 0 ∷ 1 ∷ 0 ∷ 1 ∷ 1 ∷ 0 ∷ 1 ∷ 0 ∷ 0 ∷ 0 ∷ 6 ∷ 7 ∷ 0 ∷ 1 ∷ 0 ∷ 1 ∷ 1 ∷ 0 ∷ 1 ∷ 0 ∷ 0 ∷ 0 ∷ 6 ∷ [])
+          -- four times 100 and three times 4 tuples in space 0
+          ∷ (65 ∷ 71 ∷ 0 ∷ 66 ∷ 0 ∷ 0 ∷ 0 ∷ 16 ∷ 2 ∷ 0 ∷ 5 ∷ 1 ∷ 0 ∷ 7 ∷ 7 ∷ 0 ∷ 1 ∷ 0 ∷ 0 ∷ 0 ∷ 7 ∷ 0 ∷ 1 ∷ 0 ∷ 0 ∷ 0 ∷ 7 ∷ 0 ∷ 1 ∷ 0 ∷ 0 ∷ 0 ∷ 7 ∷ 0 ∷ 1 ∷ 0 ∷ 0 ∷ 0 ∷ 7 ∷ 0 ∷ 1 ∷ 0 ∷ 0 ∷ 1 ∷ 0 ∷ 1 ∷ 0 ∷ 0 ∷ 0 ∷ 4 ∷ 7 ∷ 0 ∷ 1 ∷ 0 ∷ 0 ∷ 1 ∷ 0 ∷ 1 ∷ 0 ∷ 0 ∷ 0 ∷ 4 ∷ 7 ∷ 0 ∷ 1 ∷ 0 ∷ 0 ∷ 1 ∷ 0 ∷ 1 ∷ 0 ∷ 0 ∷ 0 ∷ 4 ∷ [])
+          -- 512 tuples
+          ∷ (65 ∷ 71 ∷ 0 ∷ 16 ∷ 0 ∷ 0 ∷ 0 ∷ 17 ∷ 2 ∷ 0 ∷ 5 ∷ 1 ∷ 0 ∷ 1 ∷ 5 ∷ 0 ∷ 0 ∷ 1 ∷ 0 ∷ 1 ∷ 0 ∷ 0 ∷ 0 ∷ 8 ∷ [])
+          ∷ (67 ∷ 82 ∷ 0 ∷ 1 ∷ 0 ∷ 0 ∷ 0 ∷ 18 ∷ 15 ∷ [])
+          ∷ (67 ∷ 82 ∷ 0 ∷ 1 ∷ 0 ∷ 0 ∷ 0 ∷ 19 ∷ 0 ∷ [])
+          ∷ (67 ∷ 82 ∷ 0 ∷ 1 ∷ 0 ∷ 0 ∷ 0 ∷ 20 ∷ 7 ∷ [])
+          ∷ (68 ∷ 83 ∷ 0 ∷ 5 ∷ 0 ∷ 0 ∷ 0 ∷ 21 ∷ 2 ∷ 0 ∷ 5 ∷ 0 ∷ 1 ∷ [])
+          ∷ (65 ∷ 71 ∷ 0 ∷ 133 ∷ 0 ∷ 0 ∷ 0 ∷ 22 ∷ 2 ∷ 0 ∷ 5 ∷ 1 ∷ 1 ∷ 0 ∷ 0 ∷ 3 ∷ 0 ∷ 1 ∷ 0 ∷ 0 ∷ 0 ∷ 1 ∷ 1 ∷ 0 ∷ 0 ∷ 1 ∷ 0 ∷ 1 ∷ 7 ∷ 1 ∷ 0 ∷ 0 ∷ 3 ∷ 0 ∷ 1 ∷ 0 ∷ 0 ∷ 0 ∷ 1 ∷ 1 ∷ 0 ∷ 2 ∷ 1 ∷ 0 ∷ 3 ∷ 1 ∷ 0 ∷ 0 ∷ 3 ∷ 0 ∷ 1 ∷ 0 ∷ 0 ∷ 0 ∷ 1 ∷ 1 ∷ 0 ∷ 4 ∷ 1 ∷ 0 ∷ 5 ∷ 1 ∷ 0 ∷ 0 ∷ 3 ∷ 0 ∷ 1 ∷ 0 ∷ 0 ∷ 0 ∷ 1 ∷ 1 ∷ 0 ∷ 6 ∷ 1 ∷ 0 ∷ 7 ∷ 1 ∷ 0 ∷ 0 ∷ 3 ∷ 0 ∷ 1 ∷ 0 ∷ 0 ∷ 0 ∷ 1 ∷ 1 ∷ 0 ∷ 8 ∷ 1 ∷ 0 ∷ 9 ∷ 1 ∷ 0 ∷ 0 ∷ 3 ∷ 0 ∷ 1 ∷ 0 ∷ 0 ∷ 0 ∷ 1 ∷ 1 ∷ 0 ∷ 10 ∷ 1 ∷ 0 ∷ 11 ∷ 1 ∷ 0 ∷ 0 ∷ 3 ∷ 0 ∷ 1 ∷ 0 ∷ 0 ∷ 0 ∷ 1 ∷ 1 ∷ 0 ∷ 12 ∷ 1 ∷ 0 ∷ 13 ∷ 1 ∷ 0 ∷ 0 ∷ 3 ∷ 0 ∷ 1 ∷ 0 ∷ 0 ∷ 0 ∷ 1 ∷ 1 ∷ 0 ∷ 14 ∷ 1 ∷ 0 ∷ 15 ∷ [])
+          ∷ (65 ∷ 71 ∷ 0 ∷ 133 ∷ 0 ∷ 0 ∷ 0 ∷ 23 ∷ 2 ∷ 0 ∷ 5 ∷ 1 ∷ 1 ∷ 0 ∷ 0 ∷ 3 ∷ 0 ∷ 1 ∷ 0 ∷ 0 ∷ 0 ∷ 1 ∷ 1 ∷ 0 ∷ 0 ∷ 1 ∷ 0 ∷ 1 ∷ 7 ∷ 1 ∷ 0 ∷ 0 ∷ 3 ∷ 0 ∷ 1 ∷ 0 ∷ 0 ∷ 0 ∷ 1 ∷ 1 ∷ 0 ∷ 2 ∷ 1 ∷ 0 ∷ 3 ∷ 1 ∷ 0 ∷ 0 ∷ 3 ∷ 0 ∷ 1 ∷ 0 ∷ 0 ∷ 0 ∷ 1 ∷ 1 ∷ 0 ∷ 4 ∷ 1 ∷ 0 ∷ 5 ∷ 1 ∷ 0 ∷ 0 ∷ 3 ∷ 0 ∷ 1 ∷ 0 ∷ 0 ∷ 0 ∷ 1 ∷ 1 ∷ 0 ∷ 6 ∷ 1 ∷ 0 ∷ 7 ∷ 1 ∷ 0 ∷ 0 ∷ 3 ∷ 0 ∷ 1 ∷ 0 ∷ 0 ∷ 0 ∷ 1 ∷ 1 ∷ 0 ∷ 8 ∷ 1 ∷ 0 ∷ 9 ∷ 1 ∷ 0 ∷ 0 ∷ 3 ∷ 0 ∷ 1 ∷ 0 ∷ 0 ∷ 0 ∷ 1 ∷ 1 ∷ 0 ∷ 10 ∷ 1 ∷ 0 ∷ 11 ∷ 1 ∷ 0 ∷ 0 ∷ 3 ∷ 0 ∷ 1 ∷ 0 ∷ 0 ∷ 0 ∷ 1 ∷ 1 ∷ 0 ∷ 12 ∷ 1 ∷ 0 ∷ 13 ∷ 1 ∷ 0 ∷ 0 ∷ 3 ∷ 0 ∷ 1 ∷ 0 ∷ 0 ∷ 0 ∷ 1 ∷ 1 ∷ 0 ∷ 14 ∷ 1 ∷ 0 ∷ 15 ∷ [])
+          ∷ (65 ∷ 71 ∷ 0 ∷ 37 ∷ 0 ∷ 0 ∷ 0 ∷ 24 ∷ 2 ∷ 0 ∷ 5 ∷ 1 ∷ 1 ∷ 0 ∷ 0 ∷ 3 ∷ 0 ∷ 1 ∷ 0 ∷ 0 ∷ 0 ∷ 1 ∷ 0 ∷ 0 ∷ 0 ∷ 0 ∷ 0 ∷ 6 ∷ 0 ∷ 0 ∷ 0 ∷ 0 ∷ 0 ∷ 7 ∷ 1 ∷ 5 ∷ 0 ∷ 0 ∷ 1 ∷ 0 ∷ 1 ∷ 0 ∷ 0 ∷ 0 ∷ 9 ∷ [])
+          ∷ [];
+      shows = record {
+        answers = replies (82 ∷ 80 ∷ 0 ∷ 0 ∷ 0 ∷ 1 ∷ 2 ∷ 0 ∷ 0 ∷ 0 ∷ 0 ∷ 1 ∷ 0 ∷ 0 ∷ 0 ∷ 0 ∷ 0 ∷ 1 ∷ [])
+            ∷ replies (82 ∷ 80 ∷ 0 ∷ 0 ∷ 0 ∷ 2 ∷ 0 ∷ 0 ∷ 0 ∷ 0 ∷ 0 ∷ 1 ∷ 0 ∷ 0 ∷ 0 ∷ 0 ∷ 0 ∷ 2 ∷ [])
+            ∷ replies (82 ∷ 80 ∷ 0 ∷ 0 ∷ 0 ∷ 3 ∷ 7 ∷ 0 ∷ 0 ∷ 0 ∷ 0 ∷ 1 ∷ 0 ∷ 0 ∷ 0 ∷ 0 ∷ 0 ∷ 3 ∷ [])
+            ∷ replies (82 ∷ 80 ∷ 0 ∷ 0 ∷ 0 ∷ 4 ∷ 15 ∷ 0 ∷ 0 ∷ 0 ∷ 0 ∷ 1 ∷ 0 ∷ 0 ∷ 0 ∷ 0 ∷ 0 ∷ 4 ∷ [])
+            ∷ replies (82 ∷ 80 ∷ 0 ∷ 0 ∷ 0 ∷ 5 ∷ 2 ∷ 0 ∷ 5 ∷ 0 ∷ 0 ∷ 1 ∷ 0 ∷ 0 ∷ 0 ∷ 0 ∷ 0 ∷ 1 ∷ [])
+            ∷ replies (82 ∷ 80 ∷ 0 ∷ 0 ∷ 0 ∷ 6 ∷ 2 ∷ 0 ∷ 5 ∷ 0 ∷ 0 ∷ 1 ∷ 0 ∷ 0 ∷ 0 ∷ 0 ∷ 0 ∷ 2 ∷ [])
+            ∷ replies (82 ∷ 80 ∷ 0 ∷ 0 ∷ 0 ∷ 7 ∷ 2 ∷ 0 ∷ 5 ∷ 0 ∷ 0 ∷ 1 ∷ 0 ∷ 0 ∷ 0 ∷ 0 ∷ 0 ∷ 3 ∷ [])
+            ∷ replies (82 ∷ 80 ∷ 0 ∷ 0 ∷ 0 ∷ 8 ∷ 2 ∷ 0 ∷ 5 ∷ 0 ∷ 0 ∷ 1 ∷ 0 ∷ 0 ∷ 0 ∷ 0 ∷ 0 ∷ 4 ∷ [])
+            ∷ replies (82 ∷ 80 ∷ 0 ∷ 0 ∷ 0 ∷ 9 ∷ 2 ∷ 0 ∷ 5 ∷ 0 ∷ 0 ∷ 1 ∷ 0 ∷ 0 ∷ 0 ∷ 0 ∷ 0 ∷ 5 ∷ [])
+            ∷ replies (82 ∷ 80 ∷ 0 ∷ 0 ∷ 0 ∷ 10 ∷ 2 ∷ 0 ∷ 5 ∷ 0 ∷ 0 ∷ 1 ∷ 0 ∷ 0 ∷ 0 ∷ 0 ∷ 0 ∷ 6 ∷ [])
+            ∷ replies (82 ∷ 80 ∷ 0 ∷ 0 ∷ 0 ∷ 11 ∷ 2 ∷ 0 ∷ 5 ∷ 0 ∷ 0 ∷ 1 ∷ 0 ∷ 0 ∷ 0 ∷ 0 ∷ 0 ∷ 7 ∷ [])
+            ∷ replies (82 ∷ 80 ∷ 0 ∷ 0 ∷ 0 ∷ 12 ∷ 2 ∷ 0 ∷ 5 ∷ 0 ∷ 0 ∷ 1 ∷ 0 ∷ 0 ∷ 0 ∷ 0 ∷ 0 ∷ 8 ∷ [])
+            ∷ replies (82 ∷ 80 ∷ 0 ∷ 0 ∷ 0 ∷ 13 ∷ 2 ∷ 0 ∷ 5 ∷ 0 ∷ 0 ∷ 1 ∷ 0 ∷ 0 ∷ 0 ∷ 0 ∷ 0 ∷ 1 ∷ [])
+            ∷ replies (82 ∷ 80 ∷ 0 ∷ 0 ∷ 0 ∷ 14 ∷ 2 ∷ 0 ∷ 5 ∷ 0 ∷ 1 ∷ 0 ∷ [])
+            ∷ replies (82 ∷ 80 ∷ 0 ∷ 0 ∷ 0 ∷ 15 ∷ 2 ∷ 0 ∷ 5 ∷ 0 ∷ 1 ∷ 0 ∷ [])
+            ∷ replies (82 ∷ 80 ∷ 0 ∷ 0 ∷ 0 ∷ 16 ∷ 2 ∷ 0 ∷ 5 ∷ 0 ∷ 1 ∷ 0 ∷ [])
+            ∷ replies (82 ∷ 80 ∷ 0 ∷ 0 ∷ 0 ∷ 17 ∷ 2 ∷ 0 ∷ 5 ∷ 12 ∷ 1 ∷ 0 ∷ [])
+            ∷ replies (82 ∷ 80 ∷ 0 ∷ 0 ∷ 0 ∷ 18 ∷ 15 ∷ 0 ∷ 0 ∷ 0 ∷ 0 ∷ 1 ∷ 0 ∷ 0 ∷ 0 ∷ 0 ∷ 0 ∷ 3 ∷ [])
+            ∷ replies (82 ∷ 80 ∷ 0 ∷ 0 ∷ 0 ∷ 19 ∷ 0 ∷ 0 ∷ 0 ∷ 0 ∷ 0 ∷ 1 ∷ 0 ∷ 0 ∷ 0 ∷ 0 ∷ 0 ∷ 2 ∷ [])
+            ∷ replies (82 ∷ 80 ∷ 0 ∷ 0 ∷ 0 ∷ 20 ∷ 7 ∷ 0 ∷ 0 ∷ 0 ∷ 0 ∷ 1 ∷ 0 ∷ 0 ∷ 0 ∷ 0 ∷ 0 ∷ 1 ∷ [])
+            ∷ replies (82 ∷ 80 ∷ 0 ∷ 0 ∷ 0 ∷ 21 ∷ 2 ∷ 0 ∷ 5 ∷ 0 ∷ 0 ∷ 0 ∷ [])
+            ∷ replies (82 ∷ 80 ∷ 0 ∷ 0 ∷ 0 ∷ 22 ∷ 2 ∷ 0 ∷ 5 ∷ 0 ∷ 1 ∷ 16 ∷ 0 ∷ 0 ∷ 0 ∷ 0 ∷ 0 ∷ 1 ∷ 1 ∷ 0 ∷ 0 ∷ 0 ∷ 0 ∷ 0 ∷ 2 ∷ 0 ∷ 0 ∷ 0 ∷ 0 ∷ 1 ∷ 3 ∷ 0 ∷ 0 ∷ 0 ∷ 0 ∷ 7 ∷ 4 ∷ 0 ∷ 0 ∷ 0 ∷ 0 ∷ 1 ∷ 5 ∷ 0 ∷ 0 ∷ 0 ∷ 0 ∷ 15 ∷ 6 ∷ 0 ∷ 0 ∷ 0 ∷ 0 ∷ 2 ∷ 7 ∷ 0 ∷ 0 ∷ 0 ∷ 0 ∷ 0 ∷ 8 ∷ 0 ∷ 0 ∷ 0 ∷ 0 ∷ 2 ∷ 9 ∷ 0 ∷ 0 ∷ 0 ∷ 0 ∷ 7 ∷ 10 ∷ 0 ∷ 0 ∷ 0 ∷ 0 ∷ 2 ∷ 11 ∷ 0 ∷ 0 ∷ 0 ∷ 0 ∷ 15 ∷ 12 ∷ 0 ∷ 0 ∷ 0 ∷ 0 ∷ 3 ∷ 13 ∷ 0 ∷ 0 ∷ 0 ∷ 0 ∷ 0 ∷ 14 ∷ 0 ∷ 0 ∷ 0 ∷ 0 ∷ 3 ∷ 15 ∷ 0 ∷ 0 ∷ 0 ∷ 0 ∷ 7 ∷ [])
+            ∷ replies (82 ∷ 80 ∷ 0 ∷ 0 ∷ 0 ∷ 23 ∷ 2 ∷ 0 ∷ 5 ∷ 0 ∷ 1 ∷ 16 ∷ 0 ∷ 0 ∷ 0 ∷ 0 ∷ 0 ∷ 3 ∷ 1 ∷ 0 ∷ 0 ∷ 0 ∷ 0 ∷ 15 ∷ 2 ∷ 0 ∷ 0 ∷ 0 ∷ 0 ∷ 4 ∷ 3 ∷ 0 ∷ 0 ∷ 0 ∷ 0 ∷ 0 ∷ 4 ∷ 0 ∷ 0 ∷ 0 ∷ 0 ∷ 4 ∷ 5 ∷ 0 ∷ 0 ∷ 0 ∷ 0 ∷ 7 ∷ 6 ∷ 0 ∷ 0 ∷ 0 ∷ 0 ∷ 4 ∷ 7 ∷ 0 ∷ 0 ∷ 0 ∷ 0 ∷ 15 ∷ 8 ∷ 0 ∷ 0 ∷ 0 ∷ 0 ∷ 5 ∷ 9 ∷ 0 ∷ 0 ∷ 0 ∷ 0 ∷ 0 ∷ 10 ∷ 0 ∷ 0 ∷ 0 ∷ 0 ∷ 5 ∷ 11 ∷ 0 ∷ 0 ∷ 0 ∷ 0 ∷ 7 ∷ 12 ∷ 0 ∷ 0 ∷ 0 ∷ 0 ∷ 5 ∷ 13 ∷ 0 ∷ 0 ∷ 0 ∷ 0 ∷ 15 ∷ 14 ∷ 0 ∷ 0 ∷ 0 ∷ 0 ∷ 6 ∷ 15 ∷ 0 ∷ 0 ∷ 0 ∷ 0 ∷ 0 ∷ [])
+            ∷ replies (82 ∷ 80 ∷ 0 ∷ 0 ∷ 0 ∷ 24 ∷ 2 ∷ 0 ∷ 5 ∷ 0 ∷ 1 ∷ 0 ∷ [])
+            ∷ [];
+        tupleCount = 420;
+        tuples = record { space = 0; values = value 1 4 ∷ [] } ∷ record { space = 0; values = value 1 4 ∷ [] } ∷ record { space = 0; values = value 1 4 ∷ [] } ∷ record { space = 0; values = value 1 4 ∷ [] } ∷ record { space = 0; values = value 1 5 ∷ [] } ∷ record { space = 0; values = value 1 5 ∷ [] } ∷ record { space = 0; values = value 1 5 ∷ [] } ∷ record { space = 0; values = value 1 5 ∷ [] } ∷ [];
+        newest = record { space = 0; values = value 1 1 ∷ value 0 6 ∷ value 0 15 ∷ [] } ∷ record { space = 0; values = value 1 1 ∷ value 0 7 ∷ value 0 0 ∷ [] } ∷ record { space = 0; values = value 1 1 ∷ value 0 7 ∷ value 0 7 ∷ [] } ∷ record { space = 0; values = value 1 1 ∷ value 0 7 ∷ value 0 15 ∷ [] } ∷ record { space = 0; values = value 1 1 ∷ value 0 8 ∷ value 0 0 ∷ [] } ∷ record { space = 0; values = value 1 1 ∷ value 0 8 ∷ value 0 7 ∷ [] } ∷ record { space = 0; values = value 1 1 ∷ value 0 8 ∷ value 0 15 ∷ [] } ∷ record { space = 0; values = value 1 9 ∷ [] } ∷ [];
+        waiting = [];
+        spaces = record { number = 0; access = shared } ∷ [];
+        owed = [];
       };
     }
     -- 13: the 32nd waits, a 33rd is refused; meanwhile 10 comes first, inp gives 18, and a guard that holds runs; after that one more waits
@@ -1273,8 +2013,10 @@ table =
             ∷ [];
         tupleCount = 0;
         tuples = [];
+        newest = [];
         waiting = 2 ∷ 4 ∷ 5 ∷ 6 ∷ 7 ∷ 8 ∷ 9 ∷ 10 ∷ 11 ∷ 12 ∷ 13 ∷ 14 ∷ 15 ∷ 16 ∷ 17 ∷ 18 ∷ 19 ∷ 20 ∷ 21 ∷ 22 ∷ 23 ∷ 24 ∷ 25 ∷ 26 ∷ 27 ∷ 28 ∷ 29 ∷ 30 ∷ 31 ∷ 32 ∷ 33 ∷ 38 ∷ [];
         spaces = record { number = 0; access = shared } ∷ [];
+        owed = [];
       };
     }
     -- 14: the ninth MO; 7 and 9 before 14
@@ -1310,8 +2052,10 @@ table =
             ∷ [];
         tupleCount = 0;
         tuples = [];
+        newest = [];
         waiting = 11 ∷ [];
         spaces = record { number = 0; access = shared } ∷ [];
+        owed = [];
       };
     }
     -- 14: a 33rd space, space 0 included; once one is closed the next number is 32
@@ -1391,8 +2135,10 @@ table =
             ∷ [];
         tupleCount = 0;
         tuples = [];
+        newest = [];
         waiting = [];
         spaces = record { number = 0; access = shared } ∷ record { number = 2; access = shared } ∷ record { number = 3; access = shared } ∷ record { number = 4; access = shared } ∷ record { number = 5; access = shared } ∷ record { number = 6; access = shared } ∷ record { number = 7; access = shared } ∷ record { number = 8; access = shared } ∷ record { number = 9; access = shared } ∷ record { number = 10; access = shared } ∷ record { number = 11; access = shared } ∷ record { number = 12; access = shared } ∷ record { number = 13; access = shared } ∷ record { number = 14; access = shared } ∷ record { number = 15; access = shared } ∷ record { number = 16; access = shared } ∷ record { number = 17; access = shared } ∷ record { number = 18; access = shared } ∷ record { number = 19; access = shared } ∷ record { number = 20; access = shared } ∷ record { number = 21; access = shared } ∷ record { number = 22; access = shared } ∷ record { number = 23; access = shared } ∷ record { number = 24; access = shared } ∷ record { number = 25; access = shared } ∷ record { number = 26; access = shared } ∷ record { number = 27; access = shared } ∷ record { number = 28; access = shared } ∷ record { number = 29; access = shared } ∷ record { number = 30; access = shared } ∷ record { number = 31; access = shared } ∷ record { number = 32; access = private 5 } ∷ [];
+        owed = [];
       };
     }
     -- 15: DS 0
@@ -1406,8 +2152,10 @@ table =
             ∷ [];
         tupleCount = 0;
         tuples = [];
+        newest = [];
         waiting = [];
         spaces = record { number = 0; access = shared } ∷ [];
+        owed = [];
       };
     }
     -- 15: DS of a space that a waiting statement names in a body; 11 before 15; a space that it does not name is closed
@@ -1433,8 +2181,10 @@ table =
             ∷ [];
         tupleCount = 0;
         tuples = [];
+        newest = [];
         waiting = 5 ∷ [];
         spaces = record { number = 0; access = shared } ∷ record { number = 1; access = shared } ∷ record { number = 2; access = private 5 } ∷ [];
+        owed = [];
       };
     }
     -- 15: DS of a space that a waiting statement names as a copy's target; done once the statement ran
@@ -1456,8 +2206,10 @@ table =
             ∷ [];
         tupleCount = 1;
         tuples = record { space = 0; values = value 1 2 ∷ [] } ∷ [];
+        newest = [];
         waiting = [];
         spaces = record { number = 0; access = shared } ∷ [];
+        owed = [];
       };
     }
     -- 16: true, then in on empty
@@ -1471,8 +2223,10 @@ table =
             ∷ [];
         tupleCount = 0;
         tuples = [];
+        newest = [];
         waiting = [];
         spaces = record { number = 0; access = shared } ∷ [];
+        owed = [];
       };
     }
     -- 17: 2147483647 plus 1
@@ -1488,8 +2242,10 @@ table =
             ∷ [];
         tupleCount = 1;
         tuples = record { space = 0; values = value 0 2147483647 ∷ [] } ∷ [];
+        newest = [];
         waiting = [];
         spaces = record { number = 0; access = shared } ∷ [];
+        owed = [];
       };
     }
     -- 6, of AG: spare and missing bytes, and a host that is none; a legal body is 7, as no host is up
@@ -1527,8 +2283,10 @@ table =
             ∷ [];
         tupleCount = 0;
         tuples = [];
+        newest = [];
         waiting = [];
         spaces = record { number = 0; access = shared } ∷ [];
+        owed = [];
       };
     }
     -- 6, of AG: 250 bytes are legal, 251 are not
@@ -1548,8 +2306,10 @@ table =
             ∷ [];
         tupleCount = 0;
         tuples = [];
+        newest = [];
         waiting = [];
         spaces = record { number = 0; access = shared } ∷ [];
+        owed = [];
       };
     }
     -- 6, of AG: counts of branches, operations and fields
@@ -1593,8 +2353,10 @@ table =
             ∷ [];
         tupleCount = 0;
         tuples = [];
+        newest = [];
         waiting = [];
         spaces = record { number = 0; access = shared } ∷ [];
+        owed = [];
       };
     }
     -- 6, of AG: codes
@@ -1629,8 +2391,10 @@ table =
             ∷ [];
         tupleCount = 0;
         tuples = [];
+        newest = [];
         waiting = [];
         spaces = record { number = 0; access = shared } ∷ [];
+        owed = [];
       };
     }
     -- 6, of AG: the forms of fields that an operation allows
@@ -1662,8 +2426,10 @@ table =
             ∷ [];
         tupleCount = 0;
         tuples = [];
+        newest = [];
         waiting = [];
         spaces = record { number = 0; access = shared } ∷ [];
+        owed = [];
       };
     }
     -- 6, of AG: variables are bound once in a branch and used only in a later operation of it
@@ -1698,8 +2464,10 @@ table =
             ∷ [];
         tupleCount = 0;
         tuples = [];
+        newest = [];
         waiting = [];
         spaces = record { number = 0; access = shared } ∷ [];
+        owed = [];
       };
     }
     -- 6, of AG: forms 3 and 4 need the variable's kind to be theirs, and not name
@@ -1725,8 +2493,10 @@ table =
             ∷ [];
         tupleCount = 0;
         tuples = [];
+        newest = [];
         waiting = [];
         spaces = record { number = 0; access = shared } ∷ [];
+        owed = [];
       };
     }
     -- 6, of AG: kinds and values
@@ -1767,13 +2537,15 @@ table =
             ∷ [];
         tupleCount = 0;
         tuples = [];
+        newest = [];
         waiting = [];
         spaces = record { number = 0; access = shared } ∷ [];
+        owed = [];
       };
     }
     ∷ []
 
 -- every row shows what it must
 pub cases : map (λ (c : Case). shown (c .stream)) table ≡ map (λ (c : Case). c .shows) table
-unfolding computes left shownFrom shown table
+unfolding computes newestOf owedPairs left shownFrom shown table
 cases = refl

@@ -1,11 +1,16 @@
--- Written by tools/states: states as literal bytes, worked out by hand from "The state buffer" of document 01 and the space numbers of document 02; of its conditions, those on tuples and waiting statements (the others: `cases`). Assumes nothing.
+-- Written by tools/states: states as literal bytes, worked out by hand from "The state buffer" of document 01 and the space numbers and owed hosts of document 02; of its conditions, those on tuples, waiting statements and owed hosts (the others: `cases`). Assumes nothing.
 use mathlib.Core.Path.{_≡_, refl}
 use Prim.Native.Nat.{ℕ}
 use mathlib.Core.Bool.{true, false}
-use mathlib.Core.List.{List, [], _∷_, _++_, map}
+use mathlib.Core.List.{List, [], _∷_, _++_, map, flatMap}
+use lib.ListN.{replicate}
 use Rattle.basis.specs.Lists.{zeros}
 use Rattle.layout.specs.IsState.{isState}
 use Rattle.layout.specs.Computes.{computes}
+
+-- the bytes of one tuple, n times
+unfoldable pub rows : ℕ → List ℕ → List ℕ
+rows n row = flatMap (λ (b : List ℕ). b) (replicate n row)
 
 -- "It is a state exactly if .."
 
@@ -124,3 +129,73 @@ buffers36 =
 pub states36 : map isState buffers36 ≡ (false ∷ false ∷ [])
 unfolding computes buffers36
 states36 = refl
+
+-- "A state may owe something only while it holds 512 tuples"; and a number that was not given is owed nothing
+
+unfoldable pub owed0 : List (List ℕ)
+owed0 =
+    -- 512 tuples, and nothing owed
+    (84 ∷ 83 ∷ 0 ∷ 0 ∷ 0 ∷ 9 ∷ 0 ∷ 36 ∷ 2 ∷ 0 ∷ 0 ∷ 0 ∷ 4 ∷ 3 ∷ 2 ∷ (zeros 55 ++ (2 ∷ 1 ∷ 0 ∷ 5 ∷ 0 ∷ 3 ∷ (zeros 148 ++ (rows 512 (0 ∷ 0 ∷ 1 ∷ 1 ∷ 0 ∷ 0 ∷ 0 ∷ 7 ∷ zeros 25) ++ (zeros 8192))))))
+    -- monitor 2 is owed hosts 0 and 15
+    ∷ (84 ∷ 83 ∷ 0 ∷ 0 ∷ 0 ∷ 9 ∷ 0 ∷ 36 ∷ 2 ∷ 0 ∷ 0 ∷ 0 ∷ 4 ∷ 3 ∷ 2 ∷ 0 ∷ 2 ∷ 0 ∷ 0 ∷ 128 ∷ 1 ∷ (zeros 49 ++ (2 ∷ 1 ∷ 0 ∷ 5 ∷ 0 ∷ 3 ∷ (zeros 148 ++ (rows 512 (0 ∷ 0 ∷ 1 ∷ 1 ∷ 0 ∷ 0 ∷ 0 ∷ 7 ∷ zeros 25) ++ (0 ∷ 0 ∷ 0 ∷ 3 ∷ 0 ∷ 15 ∷ 2 ∷ 0 ∷ 5 ∷ 1 ∷ 1 ∷ 0 ∷ 2 ∷ 1 ∷ 0 ∷ 1 ∷ 0 ∷ 0 ∷ 0 ∷ 9 ∷ (zeros 239 ++ (7 ∷ 0 ∷ 15 ∷ 5 ∷ 0 ∷ 6 ∷ 1 ∷ 1 ∷ 0 ∷ 0 ∷ 1 ∷ 0 ∷ 1 ∷ 0 ∷ 0 ∷ 0 ∷ 9 ∷ zeros 7916))))))))
+    -- all eight are owed all hosts
+    ∷ (84 ∷ 83 ∷ 0 ∷ 0 ∷ 0 ∷ 9 ∷ 0 ∷ 36 ∷ 8 ∷ 0 ∷ 0 ∷ 0 ∷ 4 ∷ 3 ∷ 2 ∷ 0 ∷ 0 ∷ 255 ∷ 255 ∷ 255 ∷ 255 ∷ 255 ∷ 255 ∷ 255 ∷ 255 ∷ 255 ∷ 255 ∷ 255 ∷ 255 ∷ 255 ∷ 255 ∷ 255 ∷ 255 ∷ (zeros 37 ++ (2 ∷ 1 ∷ 0 ∷ 5 ∷ 0 ∷ 3 ∷ (zeros 148 ++ (rows 512 (0 ∷ 0 ∷ 1 ∷ 1 ∷ 0 ∷ 0 ∷ 0 ∷ 7 ∷ zeros 25) ++ (zeros 8192))))))
+    -- monitor 2 is owed hosts beside 511 tuples
+    ∷ (84 ∷ 83 ∷ 0 ∷ 0 ∷ 0 ∷ 9 ∷ 0 ∷ 36 ∷ 2 ∷ 0 ∷ 0 ∷ 0 ∷ 4 ∷ 3 ∷ 1 ∷ 255 ∷ 0 ∷ 0 ∷ 0 ∷ 128 ∷ 1 ∷ (zeros 49 ++ (2 ∷ 1 ∷ 0 ∷ 5 ∷ 0 ∷ 3 ∷ (zeros 148 ++ (rows 511 (0 ∷ 0 ∷ 1 ∷ 1 ∷ 0 ∷ 0 ∷ 0 ∷ 7 ∷ zeros 25) ++ (zeros 8225))))))
+    -- beside one tuple
+    ∷ (84 ∷ 83 ∷ 0 ∷ 0 ∷ 0 ∷ 9 ∷ 0 ∷ 36 ∷ 2 ∷ 0 ∷ 0 ∷ 0 ∷ 4 ∷ 3 ∷ 0 ∷ 1 ∷ 2 ∷ 0 ∷ 0 ∷ 128 ∷ 1 ∷ (zeros 49 ++ (2 ∷ 1 ∷ 0 ∷ 5 ∷ 0 ∷ 3 ∷ (zeros 150 ++ (2 ∷ 1 ∷ 0 ∷ 0 ∷ 0 ∷ 7 ∷ 0 ∷ 255 ∷ 255 ∷ 255 ∷ 255 ∷ (zeros 16886 ++ (3 ∷ 0 ∷ 15 ∷ 2 ∷ 0 ∷ 5 ∷ 1 ∷ 1 ∷ 0 ∷ 2 ∷ 1 ∷ 0 ∷ 1 ∷ 0 ∷ 0 ∷ 0 ∷ 9 ∷ (zeros 239 ++ (7 ∷ 0 ∷ 15 ∷ 5 ∷ 0 ∷ 6 ∷ 1 ∷ 1 ∷ 0 ∷ 0 ∷ 1 ∷ 0 ∷ 1 ∷ 0 ∷ 0 ∷ 0 ∷ 9 ∷ zeros 7916)))))))))
+    -- the byte behind the masks
+    ∷ (84 ∷ 83 ∷ 0 ∷ 0 ∷ 0 ∷ 9 ∷ 0 ∷ 36 ∷ 2 ∷ 0 ∷ 0 ∷ 0 ∷ 4 ∷ 3 ∷ 2 ∷ 0 ∷ 0 ∷ 0 ∷ 0 ∷ 128 ∷ 1 ∷ (zeros 12 ++ (1 ∷ (zeros 36 ++ (2 ∷ 1 ∷ 0 ∷ 5 ∷ 0 ∷ 3 ∷ (zeros 148 ++ (rows 512 (0 ∷ 0 ∷ 1 ∷ 1 ∷ 0 ∷ 0 ∷ 0 ∷ 7 ∷ zeros 25) ++ (zeros 8192))))))))
+    -- monitor 1 is owed host 1, with 1 given
+    ∷ (84 ∷ 83 ∷ 0 ∷ 0 ∷ 0 ∷ 9 ∷ 0 ∷ 36 ∷ 1 ∷ 0 ∷ 0 ∷ 0 ∷ 4 ∷ 3 ∷ 2 ∷ 0 ∷ 0 ∷ 0 ∷ 2 ∷ (zeros 51 ++ (2 ∷ 1 ∷ 0 ∷ 5 ∷ 0 ∷ 3 ∷ (zeros 148 ++ (rows 512 (0 ∷ 0 ∷ 1 ∷ 1 ∷ 0 ∷ 0 ∷ 0 ∷ 7 ∷ zeros 25) ++ (zeros 8192))))))
+    -- monitor 2 is owed host 3, with 2 given
+    ∷ (84 ∷ 83 ∷ 0 ∷ 0 ∷ 0 ∷ 9 ∷ 0 ∷ 36 ∷ 2 ∷ 0 ∷ 0 ∷ 0 ∷ 4 ∷ 3 ∷ 2 ∷ 0 ∷ 0 ∷ 0 ∷ 0 ∷ 0 ∷ 8 ∷ (zeros 49 ++ (2 ∷ 1 ∷ 0 ∷ 5 ∷ 0 ∷ 3 ∷ (zeros 148 ++ (rows 512 (0 ∷ 0 ∷ 1 ∷ 1 ∷ 0 ∷ 0 ∷ 0 ∷ 7 ∷ zeros 25) ++ (zeros 8192))))))
+    -- monitor 3 is owed host 5, with 3 given
+    ∷ (84 ∷ 83 ∷ 0 ∷ 0 ∷ 0 ∷ 9 ∷ 0 ∷ 36 ∷ 3 ∷ 0 ∷ 0 ∷ 0 ∷ 4 ∷ 3 ∷ 2 ∷ 0 ∷ 0 ∷ 0 ∷ 0 ∷ 0 ∷ 0 ∷ 0 ∷ 32 ∷ (zeros 47 ++ (2 ∷ 1 ∷ 0 ∷ 5 ∷ 0 ∷ 3 ∷ (zeros 148 ++ (rows 512 (0 ∷ 0 ∷ 1 ∷ 1 ∷ 0 ∷ 0 ∷ 0 ∷ 7 ∷ zeros 25) ++ (zeros 8192))))))
+    ∷ []
+
+pub owed-states0 : map isState owed0 ≡ (true ∷ true ∷ true ∷ false ∷ false ∷ false ∷ true ∷ true ∷ true ∷ [])
+unfolding computes rows owed0
+owed-states0 = refl
+
+unfoldable pub owed9 : List (List ℕ)
+owed9 =
+    -- monitor 4 is owed host 7, with 4 given
+    (84 ∷ 83 ∷ 0 ∷ 0 ∷ 0 ∷ 9 ∷ 0 ∷ 36 ∷ 4 ∷ 0 ∷ 0 ∷ 0 ∷ 4 ∷ 3 ∷ 2 ∷ (zeros 9 ++ (128 ∷ (zeros 45 ++ (2 ∷ 1 ∷ 0 ∷ 5 ∷ 0 ∷ 3 ∷ (zeros 148 ++ (rows 512 (0 ∷ 0 ∷ 1 ∷ 1 ∷ 0 ∷ 0 ∷ 0 ∷ 7 ∷ zeros 25) ++ (zeros 8192))))))))
+    -- monitor 5 is owed host 9, with 5 given
+    ∷ (84 ∷ 83 ∷ 0 ∷ 0 ∷ 0 ∷ 9 ∷ 0 ∷ 36 ∷ 5 ∷ 0 ∷ 0 ∷ 0 ∷ 4 ∷ 3 ∷ 2 ∷ (zeros 10 ++ (2 ∷ (zeros 44 ++ (2 ∷ 1 ∷ 0 ∷ 5 ∷ 0 ∷ 3 ∷ (zeros 148 ++ (rows 512 (0 ∷ 0 ∷ 1 ∷ 1 ∷ 0 ∷ 0 ∷ 0 ∷ 7 ∷ zeros 25) ++ (zeros 8192))))))))
+    -- monitor 6 is owed host 11, with 6 given
+    ∷ (84 ∷ 83 ∷ 0 ∷ 0 ∷ 0 ∷ 9 ∷ 0 ∷ 36 ∷ 6 ∷ 0 ∷ 0 ∷ 0 ∷ 4 ∷ 3 ∷ 2 ∷ (zeros 12 ++ (8 ∷ (zeros 42 ++ (2 ∷ 1 ∷ 0 ∷ 5 ∷ 0 ∷ 3 ∷ (zeros 148 ++ (rows 512 (0 ∷ 0 ∷ 1 ∷ 1 ∷ 0 ∷ 0 ∷ 0 ∷ 7 ∷ zeros 25) ++ (zeros 8192))))))))
+    -- monitor 7 is owed host 13, with 7 given
+    ∷ (84 ∷ 83 ∷ 0 ∷ 0 ∷ 0 ∷ 9 ∷ 0 ∷ 36 ∷ 7 ∷ 0 ∷ 0 ∷ 0 ∷ 4 ∷ 3 ∷ 2 ∷ (zeros 14 ++ (32 ∷ (zeros 40 ++ (2 ∷ 1 ∷ 0 ∷ 5 ∷ 0 ∷ 3 ∷ (zeros 148 ++ (rows 512 (0 ∷ 0 ∷ 1 ∷ 1 ∷ 0 ∷ 0 ∷ 0 ∷ 7 ∷ zeros 25) ++ (zeros 8192))))))))
+    -- monitor 8 is owed host 15, with 8 given
+    ∷ (84 ∷ 83 ∷ 0 ∷ 0 ∷ 0 ∷ 9 ∷ 0 ∷ 36 ∷ 8 ∷ 0 ∷ 0 ∷ 0 ∷ 4 ∷ 3 ∷ 2 ∷ (zeros 16 ++ (128 ∷ (zeros 38 ++ (2 ∷ 1 ∷ 0 ∷ 5 ∷ 0 ∷ 3 ∷ (zeros 148 ++ (rows 512 (0 ∷ 0 ∷ 1 ∷ 1 ∷ 0 ∷ 0 ∷ 0 ∷ 7 ∷ zeros 25) ++ (zeros 8192))))))))
+    -- monitor 1 is owed host 1, with 0 given
+    ∷ (84 ∷ 83 ∷ 0 ∷ 0 ∷ 0 ∷ 9 ∷ 0 ∷ 36 ∷ 0 ∷ 0 ∷ 0 ∷ 0 ∷ 4 ∷ 3 ∷ 2 ∷ 0 ∷ 0 ∷ 0 ∷ 2 ∷ (zeros 51 ++ (2 ∷ 1 ∷ 0 ∷ 5 ∷ 0 ∷ 3 ∷ (zeros 148 ++ (rows 512 (0 ∷ 0 ∷ 1 ∷ 1 ∷ 0 ∷ 0 ∷ 0 ∷ 7 ∷ zeros 25) ++ (zeros 8192))))))
+    -- monitor 2 is owed host 3, with 1 given
+    ∷ (84 ∷ 83 ∷ 0 ∷ 0 ∷ 0 ∷ 9 ∷ 0 ∷ 36 ∷ 1 ∷ 0 ∷ 0 ∷ 0 ∷ 4 ∷ 3 ∷ 2 ∷ 0 ∷ 0 ∷ 0 ∷ 0 ∷ 0 ∷ 8 ∷ (zeros 49 ++ (2 ∷ 1 ∷ 0 ∷ 5 ∷ 0 ∷ 3 ∷ (zeros 148 ++ (rows 512 (0 ∷ 0 ∷ 1 ∷ 1 ∷ 0 ∷ 0 ∷ 0 ∷ 7 ∷ zeros 25) ++ (zeros 8192))))))
+    -- monitor 3 is owed host 5, with 2 given
+    ∷ (84 ∷ 83 ∷ 0 ∷ 0 ∷ 0 ∷ 9 ∷ 0 ∷ 36 ∷ 2 ∷ 0 ∷ 0 ∷ 0 ∷ 4 ∷ 3 ∷ 2 ∷ 0 ∷ 0 ∷ 0 ∷ 0 ∷ 0 ∷ 0 ∷ 0 ∷ 32 ∷ (zeros 47 ++ (2 ∷ 1 ∷ 0 ∷ 5 ∷ 0 ∷ 3 ∷ (zeros 148 ++ (rows 512 (0 ∷ 0 ∷ 1 ∷ 1 ∷ 0 ∷ 0 ∷ 0 ∷ 7 ∷ zeros 25) ++ (zeros 8192))))))
+    -- monitor 4 is owed host 7, with 3 given
+    ∷ (84 ∷ 83 ∷ 0 ∷ 0 ∷ 0 ∷ 9 ∷ 0 ∷ 36 ∷ 3 ∷ 0 ∷ 0 ∷ 0 ∷ 4 ∷ 3 ∷ 2 ∷ (zeros 9 ++ (128 ∷ (zeros 45 ++ (2 ∷ 1 ∷ 0 ∷ 5 ∷ 0 ∷ 3 ∷ (zeros 148 ++ (rows 512 (0 ∷ 0 ∷ 1 ∷ 1 ∷ 0 ∷ 0 ∷ 0 ∷ 7 ∷ zeros 25) ++ (zeros 8192))))))))
+    ∷ []
+
+pub owed-states9 : map isState owed9 ≡ (true ∷ true ∷ true ∷ true ∷ true ∷ false ∷ false ∷ false ∷ false ∷ [])
+unfolding computes rows owed9
+owed-states9 = refl
+
+unfoldable pub owed18 : List (List ℕ)
+owed18 =
+    -- monitor 5 is owed host 9, with 4 given
+    (84 ∷ 83 ∷ 0 ∷ 0 ∷ 0 ∷ 9 ∷ 0 ∷ 36 ∷ 4 ∷ 0 ∷ 0 ∷ 0 ∷ 4 ∷ 3 ∷ 2 ∷ (zeros 10 ++ (2 ∷ (zeros 44 ++ (2 ∷ 1 ∷ 0 ∷ 5 ∷ 0 ∷ 3 ∷ (zeros 148 ++ (rows 512 (0 ∷ 0 ∷ 1 ∷ 1 ∷ 0 ∷ 0 ∷ 0 ∷ 7 ∷ zeros 25) ++ (zeros 8192))))))))
+    -- monitor 6 is owed host 11, with 5 given
+    ∷ (84 ∷ 83 ∷ 0 ∷ 0 ∷ 0 ∷ 9 ∷ 0 ∷ 36 ∷ 5 ∷ 0 ∷ 0 ∷ 0 ∷ 4 ∷ 3 ∷ 2 ∷ (zeros 12 ++ (8 ∷ (zeros 42 ++ (2 ∷ 1 ∷ 0 ∷ 5 ∷ 0 ∷ 3 ∷ (zeros 148 ++ (rows 512 (0 ∷ 0 ∷ 1 ∷ 1 ∷ 0 ∷ 0 ∷ 0 ∷ 7 ∷ zeros 25) ++ (zeros 8192))))))))
+    -- monitor 7 is owed host 13, with 6 given
+    ∷ (84 ∷ 83 ∷ 0 ∷ 0 ∷ 0 ∷ 9 ∷ 0 ∷ 36 ∷ 6 ∷ 0 ∷ 0 ∷ 0 ∷ 4 ∷ 3 ∷ 2 ∷ (zeros 14 ++ (32 ∷ (zeros 40 ++ (2 ∷ 1 ∷ 0 ∷ 5 ∷ 0 ∷ 3 ∷ (zeros 148 ++ (rows 512 (0 ∷ 0 ∷ 1 ∷ 1 ∷ 0 ∷ 0 ∷ 0 ∷ 7 ∷ zeros 25) ++ (zeros 8192))))))))
+    -- monitor 8 is owed host 15, with 7 given
+    ∷ (84 ∷ 83 ∷ 0 ∷ 0 ∷ 0 ∷ 9 ∷ 0 ∷ 36 ∷ 7 ∷ 0 ∷ 0 ∷ 0 ∷ 4 ∷ 3 ∷ 2 ∷ (zeros 16 ++ (128 ∷ (zeros 38 ++ (2 ∷ 1 ∷ 0 ∷ 5 ∷ 0 ∷ 3 ∷ (zeros 148 ++ (rows 512 (0 ∷ 0 ∷ 1 ∷ 1 ∷ 0 ∷ 0 ∷ 0 ∷ 7 ∷ zeros 25) ++ (zeros 8192))))))))
+    ∷ []
+
+pub owed-states18 : map isState owed18 ≡ (false ∷ false ∷ false ∷ false ∷ [])
+unfolding computes rows owed18
+owed-states18 = refl

@@ -5,9 +5,9 @@ ghost use Prim.Native.Nat.{_+_, _≤_, _<_};
 ghost use lib.ListN.{length};
 ghost use lib.Dec.{T, leb, eqb};
 ghost use Rattle.basis.specs.Numbers.{count};
-ghost use Rattle.basis.specs.Sizes.{hosts, mostSpaces, mostTuples, spaceNumbers, replyHeaderSize, replyValueSize};
+ghost use Rattle.basis.specs.Sizes.{hosts, mostSpaces, spaceNumbers, replyHeaderSize, replyValueSize};
 ghost use Rattle.model.specs.Run.{hostUp, monitorsUsedUp};
-ghost use Rattle.model.specs.Step.{recover, crash, monitor, openSpace, closeSpace, failureTuples, someWaitingNames, inVariable0, effect};
+ghost use Rattle.model.specs.Step.{recover, crash, monitor, openSpace, closeSpace, someWaitingNames, inVariable0, effect};
 ghost use Rattle.layout.specs.States.{decode};
 ghost use Rattle.replies.specs.Written.{reply, Wrote};
 ghost use Rattle.layout.specs.Stored.{IsStored, Turned};
@@ -33,11 +33,10 @@ pub fn take_recover(state: &mut [u8], out: &mut [u8], host: u8) -> usize
 
 // CR: "it has crashed".
 pub fn take_crash(state: &mut [u8], out: &mut [u8], host: u8) -> usize
-    requires { ⌜ IsStored (now state) × (host < hosts) × (hostUp (decode (now state)) host ≡ true)
-        × (length ((decode (now state)) .tuples) + length (failureTuples (decode (now state)) host) ≤ mostTuples) × (replyHeaderSize + replyValueSize ≤ length (now out)) ⌝ }
+    requires { ⌜ IsStored (now state) × (host < hosts) × (hostUp (decode (now state)) host ≡ true) × (replyHeaderSize + replyValueSize ≤ length (now out)) ⌝ }
     ensures { λ r. ⌜ Turned (effect (decode (now (state .entry))) (crash host)) (now (out .entry)) (now (state .exit)) (now (out .exit)) r ⌝ }
 {
-    state::crash(state, host);
+    notices::crash(state, host);
     answer_up(state, out, host)
 }
 

@@ -6,13 +6,13 @@ use native.Mathlib.Omega.{arith}
 use mathlib.Core.List.{List, [], _++_, flatMap}
 use lib.ListN.{length}
 use borrow.Author.Tests.{ne-eqb, eq-eqb}
-use Rattle.basis.specs.Lists.{zeros, pad}
+use Rattle.basis.specs.Lists.{countFrom, zeros, pad}
 use Rattle.basis.specs.Numbers.{bigEndian, mask}
 use Rattle.basis.specs.NumberLaws.{bigEndian-length}
 use Rattle.basis.specs.PadLaws.{zeros-length, zeros-add, pad-split}
 use Rattle.basis.specs.Sizes.{countWidth, nextWidth, headerSize, spaceSize, tupleSize, waitingSize, spacesSize, tuplesSize, waitingAllSize, stateSize}
-use Rattle.model.specs.Run.{fresh}
-use Rattle.layout.specs.States.{stateMark, headerBytes, spaceBytes, accessBytes, tupleBytes, waitingBytes, area, encode}
+use Rattle.model.specs.Run.{fresh, owedMask}
+use Rattle.layout.specs.States.{stateMark, owedBytes, headerBytes, spaceBytes, accessBytes, tupleBytes, waitingBytes, area, encode}
 use Rattle.calls.specs.Calls.{freshAnswer, freshCall}
 use Rattle.words.specs.Over.{over}
 use Rattle.words.specs.OverLaws.{over-all, over-left, over-length}
@@ -29,7 +29,7 @@ unfoldable stored : List ℕ → List ℕ
 stored b = withRow spaceCountPart 1 (withRow nextPart 1 (withMark b))
 
 header-fresh : stored (zeros headerSize) ≡ pad headerSize (headerBytes fresh)
-unfolding stored over zeros headerBytes pad bigEndian fresh mask
+unfolding stored over zeros headerBytes owedBytes owedMask countFrom flatMap pad bigEndian fresh mask
 header-fresh = refl
 
 spaces-fresh : area spacesSize spaceSize spaceBytes (fresh .spaces) ≡ zeros spacesSize

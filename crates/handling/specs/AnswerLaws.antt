@@ -1,22 +1,22 @@
 -- A record's one reply, its checks from 7 on, and its effect. Assumes nothing.
 use mathlib.Core.Path.{_≡_, refl, sym, ap, subst, _∙_}
 use mathlib.Core.Logic.{_≢_}
-use Prim.Native.Nat.{ℕ, suc, _+_, _≤_}
+use Prim.Native.Nat.{ℕ, suc, _≤_}
 use native.Mathlib.Omega.{arith}
 use native.Mathlib.Nat.{le-refl}
 use mathlib.Core.Bool.{Bool, true, false, not, _||_}
 use mathlib.Core.Option.{Option, none, some, Option·none-ne-some}
 use mathlib.Core.List.{List, [], _∷_}
 use lib.ListN.{length}
-use lib.Dec.{T, eqb, leb, nltb→le}
+use lib.Dec.{T, eqb, leb}
 use Rattle.basis.specs.Choice.{maybe, firstNumber}
 use Rattle.basis.specs.Logic.{and-l, and-r, is-false, is-true, not-not, not-eq}
 use Rattle.basis.specs.Lists.{all}
 use Rattle.basis.specs.Numbers.{numberAt, count}
-use Rattle.basis.specs.Sizes.{positionWidth, positionAt, bodyAt, mostTuples, mostSpaces, spaceNumbers, mostReply}
+use Rattle.basis.specs.Sizes.{positionWidth, positionAt, bodyAt, mostSpaces, spaceNumbers, mostReply}
 use Rattle.model.specs.Value.{Value}
 use Rattle.model.specs.Run.{Run, withMonitors, hostUp, nextMonitor, monitorsUsedUp, Reply, Turn}
-use Rattle.model.specs.Step.{Request, recover, crash, monitor, openSpace, closeSpace, guarded, standing, access, someWaitingNames, checks, failureTuples, askingHost, askingProcess, plainReply, inVariable0, refused, replied, recovered, crashed, opened, closed, effect, settled, handled}
+use Rattle.model.specs.Step.{Request, recover, crash, monitor, openSpace, closeSpace, guarded, standing, access, someWaitingNames, checks, askingHost, askingProcess, plainReply, inVariable0, refused, replied, recovered, crashed, opened, closed, effect, settled, handled}
 use Rattle.layout.specs.Replies.{repliesBytes}
 use Rattle.layout.specs.ReplyLaws.{reply-length}
 use Rattle.layout.specs.States.{decode}
@@ -87,11 +87,9 @@ module _ (s : Run) where
   unfolding checks
   may-recover h e = is-false (hostUp s h) (passed _ _ _ e .0)
 
-  pub may-crash : (h : ℕ) → firstNumber (checks s (crash h)) ≡ none → (hostUp s h ≡ true) × (length (s .tuples) + length (failureTuples s h) ≤ mostTuples)
+  pub may-crash : (h : ℕ) → firstNumber (checks s (crash h)) ≡ none → hostUp s h ≡ true
   unfolding checks
-  may-crash h e =
-      let c7 = passed _ _ _ e in
-      (is-true (hostUp s h) (not-not (hostUp s h) (c7 .0)), nltb→le mostTuples (length (s .tuples) + length (failureTuples s h)) (passed _ _ _ (c7 .1) .0))
+  may-crash h e = is-true (hostUp s h) (not-not (hostUp s h) (passed _ _ _ e .0))
 
   pub may-monitor : (h p : ℕ) → firstNumber (checks s (monitor h p)) ≡ none → T (not (monitorsUsedUp s))
   unfolding checks standing

@@ -7,19 +7,27 @@ use Rattle.basis.specs.Lists.{zeros}
 use Rattle.basis.specs.Numbers.{bigEndian, mask}
 use Rattle.basis.specs.Sizes.{markWidth, positionWidth, maskWidth, countWidth, nextWidth, tupleCountWidth, headerUsed, headerSize, spaceSize, tupleSize, waitingSize, spacesSize, tuplesSize, waitingAllSize}
 use Rattle.model.specs.Run.{Run}
-use Rattle.layout.specs.States.{stateMark, spaceBytes, tupleBytes, waitingBytes, area}
+use Rattle.layout.specs.States.{stateMark, hostsBytes, spaceBytes, tupleBytes, waitingBytes, area}
 use Rattle.words.specs.Over.{over}
 use Rattle.sections.specs.Parts.{placeIn, Parts}
 
--- mark, last position, mask, monitors, next space number, counts of spaces, tuples and waiting, unused; spaces, tuples, waiting
+-- mark, last position, mask, monitors, next space number, counts of spaces, tuples and waiting, eight owed masks, unused; spaces, tuples, waiting
 abbrev pub widths : List ℕ
-widths = markWidth ∷ positionWidth ∷ maskWidth ∷ countWidth ∷ nextWidth ∷ countWidth ∷ tupleCountWidth ∷ countWidth ∷ (headerSize - headerUsed) ∷ spacesSize ∷ tuplesSize ∷ waitingAllSize ∷ []
+widths =
+    markWidth ∷ positionWidth ∷ maskWidth ∷ countWidth ∷ nextWidth ∷ countWidth ∷ tupleCountWidth ∷ countWidth
+    ∷ maskWidth ∷ maskWidth ∷ maskWidth ∷ maskWidth ∷ maskWidth ∷ maskWidth ∷ maskWidth ∷ maskWidth
+    ∷ (headerSize - headerUsed) ∷ spacesSize ∷ tuplesSize ∷ waitingAllSize ∷ []
+
+-- the mask at a place
+abbrev pub owedRow : Run → ℕ → List ℕ
+owedRow s i = hostsBytes (getD (s .owed) i [])
 
 unfoldable pub partsOf : Run → List (List ℕ)
 partsOf s =
     stateMark ∷ bigEndian positionWidth (s .last) ∷ bigEndian maskWidth (mask (s .up)) ∷ (s .monitors ∷ []) ∷ bigEndian nextWidth (s .next)
-    ∷ (length (s .spaces) ∷ []) ∷ bigEndian tupleCountWidth (length (s .tuples)) ∷ (length (s .waiting) ∷ []) ∷ zeros (headerSize - headerUsed)
-    ∷ area spacesSize spaceSize spaceBytes (s .spaces) ∷ area tuplesSize tupleSize tupleBytes (s .tuples) ∷ area waitingAllSize waitingSize waitingBytes (s .waiting) ∷ []
+    ∷ (length (s .spaces) ∷ []) ∷ bigEndian tupleCountWidth (length (s .tuples)) ∷ (length (s .waiting) ∷ [])
+    ∷ owedRow s 0 ∷ owedRow s 1 ∷ owedRow s 2 ∷ owedRow s 3 ∷ owedRow s 4 ∷ owedRow s 5 ∷ owedRow s 6 ∷ owedRow s 7
+    ∷ zeros (headerSize - headerUsed) ∷ area spacesSize spaceSize spaceBytes (s .spaces) ∷ area tuplesSize tupleSize tupleBytes (s .tuples) ∷ area waitingAllSize waitingSize waitingBytes (s .waiting) ∷ []
 
 -- which part is which
 abbrev pub markPart : ℕ
@@ -46,17 +54,21 @@ tupleCountPart = 6
 abbrev pub waitingCountPart : ℕ
 waitingCountPart = 7
 
+-- the first of the owed masks
+abbrev pub owedPart : ℕ
+owedPart = 8
+
 abbrev pub unusedPart : ℕ
-unusedPart = 8
+unusedPart = 16
 
 abbrev pub spacesPart : ℕ
-spacesPart = 9
+spacesPart = 17
 
 abbrev pub tuplesPart : ℕ
-tuplesPart = 10
+tuplesPart = 18
 
 abbrev pub waitingPart : ℕ
-waitingPart = 11
+waitingPart = 19
 
 -- b is these parts
 abbrev pub Cut : List ℕ → List (List ℕ) → Type 0

@@ -3,7 +3,8 @@ use mathlib.Core.Path.{_≡_, sym, ap, subst, _∙_}
 use native.Mathlib.Omega.{arith}
 use mathlib.Core.Option.{some}
 use mathlib.Core.List.{List, [], _∷_}
-use lib.Dec.{T}
+use mathlib.Core.Bool.{not}
+use lib.Dec.{T, eqb}
 use lib.Pow.{areBytes}
 use Rattle.basis.specs.ListLaws.{Each, each-nil, each-cons, each-append, keep-in}
 use Rattle.model.specs.Statement.{Statement}
@@ -11,9 +12,10 @@ use Rattle.model.specs.Legal.{legalStatement}
 use Rattle.model.specs.Writing.{statementBytes}
 use Rattle.model.specs.ReadBack.{parse-some}
 use Rattle.model.specs.OperationLaws.{least-in, without-in}
-use Rattle.model.specs.Run.{Waiting, Run, withLast, Reply, Turn}
+use Rattle.model.specs.Run.{Waiting, Run, withLast, laid, Reply, Turn}
+use Rattle.model.specs.Debts.{laid-waiting, crashed-beside}
 use Rattle.model.specs.RunLaws.{WokenWords, Settles, calm, turn}
-use Rattle.model.specs.Step.{Record, Request, recover, crash, monitor, openSpace, closeSpace, guarded, requestOf, replied, recovered, crashed, opened, closed, effect, settled, step}
+use Rattle.model.specs.Step.{Record, Request, recover, crash, monitor, openSpace, closeSpace, guarded, requestOf, replied, recovered, dropped, opened, closed, effect, settled, step}
 use Rattle.model.specs.StepLaws.{answer, step-asks, all-checks, Then, settled-words, Comes, runs, is-18, is-13, waits, statement-comes}
 use Rattle.model.specs.RowLaws.{rows, NoRow}
 use Rattle.model.specs.Requests.{Possible, request-possible}
@@ -58,7 +60,8 @@ pub settles-own : (s u : Run) (rs : List Reply) (h : Settles s u rs) → Lawful 
 settles-own s _ _ (calm c) l = tt
 settles-own s u _ (turn {rs = rs} t w h) l =
     let left : Lawful (t .run .waiting) = subst (λ (x : Run). Lawful (x .waiting)) (sym (w .run)) (λ v m. l v (without-in (w .oldest) v m)) in
-    (woken-own s t w (l (w .woken) (least-in (w .oldest))), settles-own (t .run) u rs h left)
+    let still : Lawful ((laid (t .run)) .waiting) = subst Lawful (sym (laid-waiting (t .run))) left in
+    (woken-own s t w (l (w .woken) (least-in (w .oldest))), settles-own (laid (t .run)) u rs h still)
 
 -- ---- a step
 
@@ -80,9 +83,9 @@ comes-lawful s st t legal l (waits u w m e) =
     subst (λ (u : Turn). Lawful (u .run .waiting)) (sym e) (each-append P (s .waiting) _ l (each-cons P _ [] legal (each-nil P)))
 
 effect-lawful : (s : Run) (q : Request) → Possible q → Lawful (s .waiting) → Lawful ((effect s q) .run .waiting)
-unfolding effect replied recovered crashed opened closed
+unfolding effect replied recovered dropped opened closed
 effect-lawful s (recover h) p l = l
-effect-lawful s (crash h) p l = λ w m. l w (keep-in _ (s .waiting) w m)
+effect-lawful s (crash h) p l = subst (λ (u : Run). Lawful (u .waiting)) (sym (crashed-beside s h)) (λ w m. l w (keep-in (λ w. not (eqb (w .statement .host) h)) (s .waiting) w m))
 effect-lawful s (monitor h c) p l = l
 effect-lawful s (openSpace h c isPrivate) p l = l
 effect-lawful s (closeSpace h c n) p l = l
@@ -94,7 +97,7 @@ settled-own s q p l =
     record {
       own = λ st e. subst (λ (x : Request). Each (λ (r : Reply). r .outcome ≡ 0 → OwnReply (s .tuples) st r) ((effect s x) .replies)) (sym e) (statement-own s st (possible-legal st (subst Possible e p)));
       follows = k;
-      turns = settles-own ((effect s q) .run) ((settled (effect s q)) .run) (k .woken) (k .settles) (effect-lawful s q p l);
+      turns = settles-own (laid ((effect s q) .run)) ((settled (effect s q)) .run) (k .woken) (k .settles) (subst Lawful (sym (laid-waiting ((effect s q) .run))) (effect-lawful s q p l));
     }
 
 -- a step whose body is not malformed and that no check refuses (one that is refused has one reply, and that is not done)

@@ -4,15 +4,14 @@ use Prim.Native.Nat.{ℕ, _+_, _≤_, _<_}
 use native.Mathlib.Omega.{arith}
 use mathlib.Core.Bool.{Bool, true, false, not, _&&_, _||_}
 use mathlib.Core.List.{List, [], _∷_, _++_, append-assoc}
-use lib.ListN.{length, length-map}
-use lib.Dec.{leb, ltb, eqb}
-use borrow.Author.Tests.{le-leb, lt-leb, lt-ltb, le-ltb}
+use lib.ListN.{length}
+use lib.Dec.{leb, eqb}
+use borrow.Author.Tests.{le-leb, lt-leb}
 use Rattle.basis.specs.Choice.{firstNumber}
 use Rattle.basis.specs.Lists.{any}
-use Rattle.basis.specs.ListLaws.{countFrom-length}
-use Rattle.basis.specs.Sizes.{mostMonitors, mostSpaces, mostTuples, spaceNumbers}
-use Rattle.model.specs.Run.{Run, hostUp, isWaiting, isOpen, isDenied, monitorNumbers, monitorsUsedUp}
-use Rattle.model.specs.Step.{checks, standing, access, someWaitingNames, failureTuple, failureTuples, recover, crash, closeSpace}
+use Rattle.basis.specs.Sizes.{mostMonitors, mostSpaces, spaceNumbers}
+use Rattle.model.specs.Run.{Run, hostUp, isWaiting, isOpen, isDenied, monitorsUsedUp}
+use Rattle.model.specs.Step.{checks, standing, access, someWaitingNames, recover, crash, closeSpace}
 use Rattle.order.specs.Refusal.{refusal, usedUp, closing}
 
 -- ---- a row
@@ -80,28 +79,15 @@ module _ (s : Run) (h : ℕ) where
   unfolding checks
   recover-down e = refusal-last (hostUp s h) 8 e
 
-  -- ---- CR: 7, then 12 of as many tuples more as there are monitors
+  -- ---- CR: 7
 
   pub crash-down : hostUp s h ≡ false → 7 ≡ refusal (checks s (crash h))
   unfolding checks
   crash-down e = refusal-yes (not (hostUp s h)) 7 _ (ap not e)
 
-  module _ (n m : ℕ) (up : hostUp s h ≡ true) (tuples : n ≡ length (s .tuples)) (monitors : m ≡ s .monitors) where
-    after : n + m ≡ length (s .tuples) + length (failureTuples s h)
-    unfolding failureTuples monitorNumbers
-    after = omega (arith, length-map (monitorNumbers s) (failureTuple h), countFrom-length (s .monitors) 1)
-
-    pub crash-many : mostTuples < n + m → 12 ≡ refusal (checks s (crash h))
-    unfolding checks
-    crash-many l =
-        let many : ltb mostTuples (length (s .tuples) + length (failureTuples s h)) ≡ true = lt-ltb mostTuples (length (s .tuples) + length (failureTuples s h)) (omega (arith, after)) in
-        refusal-yes (ltb mostTuples (length (s .tuples) + length (failureTuples s h))) 12 [] many ∙ refusal-no (not (hostUp s h)) 7 _ (ap not up)
-
-    pub crash-few : n + m ≤ mostTuples → 0 ≡ refusal (checks s (crash h))
-    unfolding checks
-    crash-few l =
-        let few : ltb mostTuples (length (s .tuples) + length (failureTuples s h)) ≡ false = le-ltb mostTuples (length (s .tuples) + length (failureTuples s h)) (omega (arith, after)) in
-        refusal-last (ltb mostTuples (length (s .tuples) + length (failureTuples s h))) 12 few ∙ refusal-no (not (hostUp s h)) 7 _ (ap not up)
+  pub crash-up : hostUp s h ≡ true → 0 ≡ refusal (checks s (crash h))
+  unfolding checks
+  crash-up e = refusal-last (not (hostUp s h)) 7 (ap not e)
 
 -- ---- MO: 14, of monitors
 

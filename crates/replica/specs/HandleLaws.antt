@@ -15,7 +15,7 @@ use Rattle.basis.specs.Numbers.{numberAt}
 use Rattle.basis.specs.Sizes.{hostAt, processWidth, processAt, replySize, mostReply}
 use Rattle.model.specs.Statement.{Statement}
 use Rattle.model.specs.Legal.{parse, legalBody}
-use Rattle.model.specs.Run.{Run, Turn, settle}
+use Rattle.model.specs.Run.{Run, laid, Turn, continued, settle}
 use Rattle.model.specs.Step.{Mark, AG, Request, guarded, requestOf, checks, refused, malformed, effect, settled, handled}
 use Rattle.layout.specs.Replies.{replyBytes, repliesBytes}
 use Rattle.layout.specs.States.{decode}
@@ -46,12 +46,12 @@ settle-may t buffer state out own h short room = let i = said state (t .run) (h 
 -- ---- a record handled
 
 pub handled-done : (s : Run) (q : Request) (buffer middle out state state′ : List ℕ) (own n : ℕ) → firstNumber (checks s q) ≡ none
-    → Turned (effect s q) buffer state middle own → Further (settle (decode state)) own middle state′ out n → Turned (handled s q) buffer state′ out n
-unfolding handled settled repliesBytes
+    → Turned (effect s q) buffer state middle own → Further (settle (laid (decode state))) own middle state′ out n → Turned (handled s q) buffer state′ out n
+unfolding handled settled continued repliesBytes
 handled-done s q buffer middle out state state′ own n none-of t f =
     let u : Turn = effect s q in
-    let v : Turn = settle (u .run) in
-    let same : settle (decode state) ≡ v = ap settle (stored-says state (u .run) (t .stored)) in
+    let v : Turn = settle (laid (u .run)) in
+    let same : settle (laid (decode state)) ≡ v = ap (λ (s : Run). settle (laid s)) (stored-says state (u .run) (t .stored)) in
     let A : List ℕ = flatMap replyBytes (u .replies) in
     let B : List ℕ = flatMap replyBytes (v .replies) in
     let both : flatMap replyBytes (u .replies ++ v .replies) ≡ A ++ B = flatMap-append replyBytes (u .replies) (v .replies) in
@@ -66,7 +66,7 @@ handled-done s q buffer middle out state state′ own n none-of t f =
     })
 
 -- of a record but AG
-pub took-done : (o : Option Request) (s : Run) (buffer middle out state state′ : List ℕ) (own n : ℕ) → Took o s buffer state middle own → Further (settle (decode state)) own middle state′ out n
+pub took-done : (o : Option Request) (s : Run) (buffer middle out state state′ : List ℕ) (own n : ℕ) → Took o s buffer state middle own → Further (settle (laid (decode state))) own middle state′ out n
     → Turned (maybe o (malformed s) (handled s)) buffer state′ out n
 took-done o s buffer middle out state state′ own n t f = rw (t .asked) (handled-done s (t .request) buffer middle out state state′ own n (t .passes) (t .turned) f)
 

@@ -1,4 +1,4 @@
-// The checks of the host and the process that ask, and of the counts: 7, 8, 9, 12 and 14 on the bytes of a state.
+// The checks of the host and the process that ask, and of the counts: 7, 8, 9 and 14 on the bytes of a state.
 ghost use mathlib.Core.Path.{_≡_};
 ghost use Prim.Native.Nat.{_<_};
 ghost use mathlib.Core.Bool.{Bool};
@@ -16,7 +16,7 @@ fn host_is_up(state: &[u8], host: u8) -> bool
     requires { ⌜ IsStored (now state) × (host < hosts) ⌝ }
     ensures { λ r. ⌜ r ≡ hostUp (decode (now (state .entry))) host ⌝ }
 {
-    hosts::host_up(header::hosts(state), host)
+    hosts::has_host(header::hosts(state), host)
 }
 
 // Whether a process waits.
@@ -55,18 +55,13 @@ pub fn refuse_recover(state: &[u8], host: u8) -> u8
     0
 }
 
-// CR: 7, then 12, where a tuple for each monitor would not fit.
+// CR: 7. "Refusal 12 no longer occurs for a crash".
 pub fn refuse_crash(state: &[u8], host: u8) -> u8
     requires { ⌜ IsStored (now state) × (host < hosts) ⌝ }
     ensures { λ r. ⌜ r ≡ refusal (checks (decode (now (state .entry))) (crash host)) ⌝ }
 {
     if !host_is_up(state, host) {
         return 7;
-    }
-    let tuples = header::tuple_count(state);
-    let monitors = header::monitors(state);
-    if words::MOST_TUPLES < tuples + monitors {
-        return 12;
     }
     0
 }

@@ -48,6 +48,7 @@ down-fit s h f t = record {
   monitors = f .monitors;
   spaces = f .spaces;
   tuples = f .tuples;
+  owed = f .owed;
   waiting = queue-in (s .last) (s .last) (s .up) (set (s .up) h false) (s .spaces) (s .spaces) (s .waiting) (f .waiting) (λ w i.
       let q = f .waiting .each w i in
       let d = not-eq (w .statement .host) h (all-at (ofOther h) (s .waiting) t w i) in

@@ -21,7 +21,7 @@ use Rattle.state.specs.Changes.{waiting-changed}
 -- ---- the limits
 
 with-queue : (s : Run) (ws : List Waiting) → Fit s → Queue (s .last) (s .up) (s .spaces) ws → Fit (withWaiting s ws)
-with-queue s ws f q = record { last = f .last; hosts = f .hosts; monitors = f .monitors; spaces = f .spaces; tuples = f .tuples; waiting = q }
+with-queue s ws f q = record { last = f .last; hosts = f .hosts; monitors = f .monitors; spaces = f .spaces; tuples = f .tuples; waiting = q; owed = f .owed }
 
 kept-fit : (s : Run) (p : Waiting → Bool) → Fit s → Fit (withWaiting s (keep p (s .waiting)))
 kept-fit s p f = with-queue s (keep p (s .waiting)) f (queue-keep (s .last) (s .up) (s .up) (s .spaces) (s .waiting) p (f .waiting) (λ w i. f .waiting .each w (keep-in p (s .waiting) w i)))

@@ -1,16 +1,15 @@
--- CR and DS whole: effects one after the other. Assumes nothing.
-use mathlib.Core.Path.{_≡_, refl, ap, subst, _∙_}
-use Prim.Native.Nat.{ℕ, _+_, _≤_}
+-- A host that is dropped, and DS whole: effects one after the other. Assumes nothing.
+use mathlib.Core.Path.{_≡_, subst}
+use Prim.Native.Nat.{ℕ}
 use mathlib.Core.Bool.{Bool, false, not, _||_}
-use mathlib.Core.List.{List, _++_}
-use lib.ListN.{length, set}
+use mathlib.Core.List.{List}
+use lib.ListN.{set}
 use lib.Dec.{T, eqb}
 use Rattle.basis.specs.Lists.{all, keep}
 use Rattle.basis.specs.ListLaws.{all-of, keep-true}
-use Rattle.basis.specs.Sizes.{mostTuples}
 use Rattle.model.specs.Matching.{Tuple}
-use Rattle.model.specs.Run.{Waiting, Run, withUp, withSpaces, withTuples, withWaiting, hostUp, monitorNumbers}
-use Rattle.model.specs.Step.{failureTuples, someWaitingNames, crashed, closed}
+use Rattle.model.specs.Run.{Waiting, Run, withUp, withSpaces, withTuples, withWaiting, hostUp}
+use Rattle.model.specs.Step.{someWaitingNames, dropped, closed}
 use Rattle.layout.specs.States.{decode}
 use Rattle.layout.specs.Stored.{Stored}
 use Rattle.header.specs.StoredLaws.{stored-says}
@@ -18,7 +17,7 @@ use Rattle.spaces.specs.Spaces.{otherThan}
 use Rattle.queue.specs.Queue.{ofOther}
 use Rattle.tuples.specs.Section.{outside}
 
--- ---- CR: the queue, the mask, the tuples
+-- ---- CR: the queue, the mask
 
 pub others-kept : (b b₁ : List ℕ) (h : ℕ) → Stored b₁ (withWaiting (decode b) (keep (ofOther h) ((decode b) .waiting))) → T (all (ofOther h) ((decode b₁) .waiting))
 others-kept b b₁ h k = rw (stored-says b₁ _ k) (all-of (ofOther h) (keep (ofOther h) ((decode b) .waiting)) (keep-true (ofOther h) ((decode b) .waiting)))
@@ -27,21 +26,9 @@ pub still-up : (b b₁ : List ℕ) (ws : List Waiting) (h : ℕ) (x : Bool) → 
 unfolding hostUp
 still-up b b₁ ws h x k e = rw (stored-says b₁ (withWaiting (decode b) ws) k) e
 
-pub still-room : (b b₁ b₂ : List ℕ) (ws : List Waiting) (us : List Bool) (h : ℕ) → Stored b₁ (withWaiting (decode b) ws) → Stored b₂ (withUp (decode b₁) us)
-    → length ((decode b) .tuples) + length (failureTuples (decode b) h) ≤ mostTuples → length ((decode b₂) .tuples) + length (failureTuples (decode b₂) h) ≤ mostTuples
-unfolding failureTuples monitorNumbers
-still-room b b₁ b₂ ws us h k₁ k₂ room = rw (stored-says b₂ (withUp (decode b₁) us) k₂, stored-says b₁ (withWaiting (decode b) ws) k₁) room
-
-pub crashes : (b b₁ b₂ b₃ : List ℕ) (h : ℕ) → Stored b₁ (withWaiting (decode b) (keep (ofOther h) ((decode b) .waiting))) → Stored b₂ (withUp (decode b₁) (set ((decode b₁) .up) h false))
-    → Stored b₃ (withTuples (decode b₂) ((decode b₂) .tuples ++ failureTuples (decode b₂) h)) → Stored b₃ (crashed (decode b) h)
-unfolding crashed
-crashes b b₁ b₂ b₃ h k₁ k₂ k₃ =
-    let e₁ : decode b₁ ≡ withWaiting (decode b) (keep (ofOther h) ((decode b) .waiting)) = stored-says b₁ _ k₁ in
-    let e₂ : decode b₂ ≡ withUp (decode b₁) (set ((decode b₁) .up) h false) = stored-says b₂ _ k₂ in
-    let e : decode b₂ ≡ withUp (withWaiting (decode b) (keep (ofOther h) ((decode b) .waiting))) (set ((decode b) .up) h false) = e₂ ∙ ap (λ (s : Run). withUp s (set (s .up) h false)) e₁ in
-    let same : failureTuples (withUp (withWaiting (decode b) (keep (ofOther h) ((decode b) .waiting))) (set ((decode b) .up) h false)) h ≡ failureTuples (decode b) h = unfold failureTuples monitorNumbers in refl in
-    let t = subst (λ (s : Run). Stored b₃ (withTuples s (s .tuples ++ failureTuples s h))) e k₃ in
-    rw same at t
+pub host-dropped : (b b₁ b₂ : List ℕ) (h : ℕ) → Stored b₁ (withWaiting (decode b) (keep (ofOther h) ((decode b) .waiting))) → Stored b₂ (withUp (decode b₁) (set ((decode b₁) .up) h false)) → Stored b₂ (dropped (decode b) h)
+unfolding dropped
+host-dropped b b₁ b₂ h k₁ k₂ = subst (λ (s : Run). Stored b₂ (withUp s (set (s .up) h false))) (stored-says b₁ _ k₁) k₂
 
 -- ---- DS: the tuples, the list of spaces
 

@@ -1,22 +1,21 @@
-// The effects of the records on the bytes of a state: the rows of its header by `header`, each section lent to its home.
+// The effects of the records on the bytes of a state, but for failure tuples: the rows of its header by `header`, each section lent to its home.
 ghost use mathlib.Core.Path.{_≡_};
 ghost use mathlib.Core.Bool.{true, false, not, _||_};
-ghost use mathlib.Core.List.{_++_};
-ghost use Prim.Native.Nat.{_+_, _≤_, _<_};
+ghost use Prim.Native.Nat.{_≤_, _<_};
 ghost use lib.ListN.{length, set};
 ghost use lib.Dec.{T, leb, eqb};
 ghost use Rattle.basis.specs.Lists.{all, keep, removeAt};
-ghost use Rattle.basis.specs.Sizes.{hosts, mostMonitors, mostWaiting, mostSpaces, mostTuples, spaceNumbers};
+ghost use Rattle.basis.specs.Sizes.{hosts, mostWaiting, mostSpaces, spaceNumbers};
 ghost use Rattle.model.specs.Legal.{legalBody};
 ghost use Rattle.model.specs.Run.{withLast, withUp, withMonitors, withSpaces, withTuples, withWaiting, hostUp, nextMonitor, monitorsUsedUp};
-ghost use Rattle.model.specs.Step.{failureTuple, failureTuples, someWaitingNames, recovered, crashed, opened, closed};
+ghost use Rattle.model.specs.Step.{someWaitingNames, recovered, dropped, opened, closed};
 ghost use Rattle.model.specs.Fit.{Fit};
 ghost use Rattle.layout.specs.States.{decode};
 ghost use Rattle.layout.specs.Stored.{Stored, IsStored, statementOf};
 ghost use Rattle.spaces.specs.Spaces.{otherThan};
 ghost use Rattle.queue.specs.Queue.{ofOther};
-ghost use Rattle.tuples.specs.Section.{entryBytes, tuplesOf, Holds, Section, outside};
-ghost use Rattle.state.specs.Meaning.{enqueued, failures};
+ghost use Rattle.tuples.specs.Section.{outside};
+ghost use Rattle.state.specs.Meaning.{enqueued};
 
 // ---- the header
 
@@ -127,46 +126,6 @@ fn close_entry(state: &mut [u8], space: u16)
 
 // ---- the tuples
 
-// "the tuple (name 1, whole monitor number, whole host)" in space 0.
-fn failure_tuple(host: u8, monitor: u32) -> [u8; words::TUPLE]
-    ensures { λ r. ⌜ r ≡ entryBytes (failureTuple host monitor) ⌝ }
-{
-    let mut tuple = tuples::begin_entry(0, words::FAILURE_FIELDS);
-    tuples::put_value(&mut tuple, 0, values::NAME, 1);
-    tuples::put_value(&mut tuple, 1, values::WHOLE, monitor);
-    tuples::put_value(&mut tuple, 2, values::WHOLE, host as u32);
-    tuple
-}
-
-// "it appends to space 0, for each monitor number in rising order, the tuple".
-fn append_failures(tuples: &mut [u8], n: usize, host: u8, monitors: usize)
-    requires { ⌜ Section (now tuples) n × (n + monitors ≤ mostTuples) × (monitors ≤ mostMonitors) ⌝ }
-    ensures { λ _. ⌜ Holds (now (tuples .exit)) (n + monitors) (tuplesOf (now (tuples .entry)) n ++ failures host monitors) ⌝ }
-{
-    let mut m = 0;
-    while m < monitors {
-        let tuple = failure_tuple(host, (m + 1) as u32);
-        tuples::append(tuples, n + m, &tuple);
-        m += 1;
-    }
-}
-
-// The same in the state.
-fn fail(state: &mut [u8], host: u8)
-    requires { ⌜ IsStored (now state) × (host < hosts) × (length ((decode (now state)) .tuples) + length (failureTuples (decode (now state)) host) ≤ mostTuples) ⌝ }
-    ensures { λ _. ⌜ Stored (now (state .exit)) (withTuples (decode (now (state .entry))) ((decode (now (state .entry))) .tuples ++ failureTuples (decode (now (state .entry))) host)) ⌝ }
-{
-    let n = header::tuple_count(state);
-    let monitors = header::monitors(state);
-    append_failures(
-        &mut state[words::TUPLES_AT..words::TUPLES_END],
-        n,
-        host,
-        monitors,
-    );
-    header::set_tuple_count(state, n + monitors);
-}
-
 // "and its tuples".
 fn close_tuples(state: &mut [u8], space: u16)
     requires { ⌜ IsStored (now state) ⌝ }
@@ -179,15 +138,13 @@ fn close_tuples(state: &mut [u8], space: u16)
 
 // ---- what uses several
 
-// Rule 6: a crash.
-pub fn crash(state: &mut [u8], host: u8)
-    requires { ⌜ IsStored (now state) × (host < hosts) × (hostUp (decode (now state)) host ≡ true)
-        × (length ((decode (now state)) .tuples) + length (failureTuples (decode (now state)) host) ≤ mostTuples) ⌝ }
-    ensures { λ _. ⌜ Stored (now (state .exit)) (crashed (decode (now (state .entry))) host) ⌝ }
+// "A crash drops that host's waiting statements"; the host is up no more.
+pub fn drop_host(state: &mut [u8], host: u8)
+    requires { ⌜ IsStored (now state) × (host < hosts) × (hostUp (decode (now state)) host ≡ true) ⌝ }
+    ensures { λ _. ⌜ Stored (now (state .exit)) (dropped (decode (now (state .entry))) host) ⌝ }
 {
     drop_waiting(state, host);
     host_down(state, host);
-    fail(state, host);
 }
 
 // "closes a space, with its tuples".

@@ -19,9 +19,10 @@ use Rattle.model.specs.Statement.{Statement}
 use Rattle.model.specs.Legal.{legalStatement}
 use Rattle.model.specs.ReadBack.{parse-some}
 use Rattle.model.specs.Execution.{canWait, Executed, attempt, ready}
-use Rattle.model.specs.Run.{Waiting, Run, withLast, withMonitors, nextMonitor, Reply, ranReply, Turn, wokenBy, wake, settleWithin, settle}
+use Rattle.model.specs.Run.{Waiting, Run, withLast, withMonitors, nextMonitor, laid, Reply, ranReply, Turn, wokenBy, wake, continued, settleWithin, settle}
+use Rattle.model.specs.Debts.{laid-waiting, crashed-beside}
 use Rattle.model.specs.Settle.{wake-some}
-use Rattle.model.specs.Step.{Mark, RV, CR, MO, MS, DS, AG, Record, Request, recover, crash, monitor, openSpace, closeSpace, guarded, requestOf, checks, askingHost, askingProcess, plainReply, refused, malformed, replied, recovered, crashed, opened, closed, unmet, ran, effect, settled, handled, step}
+use Rattle.model.specs.Step.{Mark, RV, CR, MO, MS, DS, AG, Record, Request, recover, crash, monitor, openSpace, closeSpace, guarded, requestOf, checks, askingHost, askingProcess, plainReply, refused, malformed, replied, recovered, dropped, crashed, opened, closed, unmet, ran, effect, settled, handled, step}
 use Rattle.model.specs.BodyLaws.{HostProcess, body-iff}
 use Rattle.model.specs.Sound.{Sound}
 use Rattle.model.specs.ValidLaws.{valid-position}
@@ -93,12 +94,15 @@ woken-fits s t e r =
     subst (λ (u : Turn). FitAll (u .replies) × AllReady (u .run)) (sym (k .turned))
     (one-fits (w .position) (w .statement .host) (w .statement .process) _ _ _ (q .0) (q .1), λ v i. r v (removeAt-in (k .found .index) (s .waiting) v i))
 
+laid-ready : (s : Run) → AllReady s → AllReady (laid s)
+laid-ready s r = subst (λ (ws : List Waiting). Each Ready ws) (sym (laid-waiting s)) r
+
 within-fits : (n : ℕ) (s : Run) → AllReady s → FitAll ((settleWithin n s) .replies)
-unfolding settleWithin
+unfolding settleWithin continued
 within-fits zero s r = each-nil Fits
 within-fits (suc n) s r =
     maybe-ind (λ (t : Turn). FitAll (t .replies)) (wake s) _ _ (λ e. each-nil Fits)
-    (λ t e. let k = woken-fits s t e r in each-append Fits (t .replies) _ (k .0) (within-fits n (t .run) (k .1)))
+    (λ t e. let k = woken-fits s t e r in each-append Fits (t .replies) _ (k .0) (within-fits n (laid (t .run)) (laid-ready (t .run) (k .1))))
 
 -- ---- a record
 
@@ -107,8 +111,8 @@ abbrev Own : Turn → Type 0
 Own t = FitAll (t .replies) × AllReady (t .run)
 
 settled-fits : (t : Turn) → Own t → FitAll ((settled t) .replies)
-unfolding settled settle
-settled-fits t o = each-append Fits (t .replies) _ (o .0) (within-fits (length (t .run .waiting)) (t .run) (o .1))
+unfolding settled continued settle
+settled-fits t o = each-append Fits (t .replies) _ (o .0) (within-fits (length ((laid (t .run)) .waiting)) (laid (t .run)) (laid-ready (t .run) (o .1)))
 
 module _ (s : Run) (l : s .last < positions) (r : AllReady s) where
   refused-own : (h p n : ℕ) → Asker h p → Own (refused s h p n)
@@ -131,9 +135,11 @@ module _ (s : Run) (l : s .last < positions) (r : AllReady s) where
       (λ q. (each-nil Fits, each-append Ready (s .waiting) _ r (each-cons Ready _ [] (l, a) (each-nil Ready)))))
 
 effect-own : (s : Run) (q : Request) → s .last < positions → AllReady s → Asks q → Own (effect s q)
-unfolding effect recovered crashed opened closed
+unfolding effect recovered dropped opened closed
 effect-own s (recover h) l r a = replied-own (recovered s h) l r (recover h) _ a
-effect-own s (crash h) l r a = replied-own (crashed s h) l (λ w i. r w (keep-in (λ w. not (eqb (w .statement .host) h)) (s .waiting) w i)) (crash h) _ a
+effect-own s (crash h) l r a =
+    let same = crashed-beside s h in
+    replied-own (crashed s h) (subst (λ (u : Run). u .last < positions) (sym same) l) (subst AllReady (sym same) (λ w i. r w (keep-in (λ w. not (eqb (w .statement .host) h)) (s .waiting) w i))) (crash h) _ a
 effect-own s (monitor h p) l r a = replied-own (withMonitors s (nextMonitor s)) l r (monitor h p) _ a
 effect-own s (openSpace h p isPrivate) l r a = replied-own (opened s p isPrivate) l r (openSpace h p isPrivate) _ a
 effect-own s (closeSpace h p n) l r a = replied-own (closed s n) l r (closeSpace h p n) [] a

@@ -16,14 +16,14 @@ use Rattle.model.specs.Matching.{Tuple}
 use Rattle.model.specs.Execution.{canWait}
 use Rattle.model.specs.Run.{Space, Waiting, hostUp}
 use Rattle.model.specs.Valid.{countsFit, legalTuple, spacesRise, waitingRise, zeroShared, spacesBelowNext, tuplesInOpen, positionsFit, bodiesLegal, waitingHostsUp, processesDiffer, openToProcess, namedSpacesOpen, waitingCanWait, noneReady, validRun}
-use Rattle.model.specs.ValidLaws.{valid-counts, valid-tuples, valid-spaces-rise, valid-waiting-rise, valid-zero, valid-below-next, valid-in-open, valid-positions, valid-bodies, valid-hosts-up, valid-processes, valid-named-open, valid-can-wait, valid-none-ready, valid-of}
+use Rattle.model.specs.ValidLaws.{valid-counts, valid-tuples, valid-spaces-rise, valid-waiting-rise, valid-zero, valid-below-next, valid-in-open, valid-positions, valid-bodies, valid-hosts-up, valid-processes, valid-named-open, valid-can-wait, valid-none-ready, valid-given, valid-only-full, valid-of}
 use Rattle.layout.specs.States.{spaceBytes, tupleBytes, waitingBytes, area, encode, decode}
 use Rattle.layout.specs.IsState.{isState}
 use Rattle.layout.specs.StateLaws.{state-encode, state-valid}
 use Rattle.scans.specs.Tests.{refused, same-test}
 use Rattle.header.specs.Rows.{spacesPart, waitingPart, spacesLent, tuplesLent, queueLent}
 use Rattle.header.specs.Whole.{headerLegal}
-use Rattle.header.specs.WholeLaws.{spaces-said, tuples-said, waiting-said, part-long, part-bytes, Says, says-same, same-says, Header, legal-header, header-legal}
+use Rattle.header.specs.WholeLaws.{spaces-said, tuples-said, waiting-said, part-long, part-bytes, Says, says-same, same-says, debts-fit, Header, legal-header, header-legal}
 use Rattle.tuples.specs.Section.{tuplesOf}
 use Rattle.spaces.specs.Spaces.{spacesOf, IsListed, Rising}
 use Rattle.spaces.specs.Legal.{spacesLegal}
@@ -77,6 +77,7 @@ module _ (b : List ℕ) (bytes : T (areBytes b)) (long : length b ≡ stateSize)
   state-of h t =
       let header : Header b = legal-header b (omega arith) h in
       let k : Counts b = counts-of b (header .limits) in
+      let debts = debts-fit (decode b) .0 (header .debts) in
       let u = rw (contents-are b k) at t in
       let s = decode b in
       let says : Says b = record {
@@ -92,7 +93,7 @@ module _ (b : List ℕ) (bytes : T (areBytes b)) (long : length b ≡ stateSize)
       let named : T (namedSpacesOpen s) = all-of (openToIt (s .spaces)) (s .waiting) (λ w m. and-l (openToIt (s .spaces) w) (canWait (w .statement)) (rest w m)) in
       let wait : T (waitingCanWait s) = all-of (λ w. canWait (w .statement)) (s .waiting) (λ w m. and-r (openToIt (s .spaces) w) (canWait (w .statement)) (rest w m)) in
       let valid : T (validRun s) = valid-of s (header .limits) (search (and-l, and-r, u) depth 10) (search (and-l, and-r, u) depth 10) (search (and-l, and-r, u) depth 10) (search (and-l, and-r, u) depth 10) (search (and-l, and-r, u) depth 10)
-      (search (and-l, and-r, u) depth 10) (search (and-l, and-r, u) depth 10) (search (and-l, and-r, u) depth 10) up (search (and-l, and-r, u) depth 10) named wait (search (and-l, and-r, u) depth 10) in
+      (search (and-l, and-r, u) depth 10) (search (and-l, and-r, u) depth 10) (search (and-l, and-r, u) depth 10) up (search (and-l, and-r, u) depth 10) named wait (search (and-l, and-r, u) depth 10) (debts .0) (debts .1) in
       let size : T (eqb (length b) stateSize) = true-is (eqb (length b) stateSize) (eq-eqb (length b) stateSize long) in
       let same : T (sameBytes (encode s) b) = rw (says-same b long bytes says) (true-is (sameBytes b b) (same-refl b)) in
       search (both, size, same, valid) depth 4
@@ -102,7 +103,7 @@ module _ (b : List ℕ) (bytes : T (areBytes b)) (long : length b ≡ stateSize)
     pub state-header : T (headerLegal b)
     state-header =
         let says : Says b = same-says b long (state-encode b i) in
-        header-legal b (omega arith) (record { mark = says .mark; unused = says .unused; limits = valid-counts (decode b) (state-valid b i) })
+        header-legal b (omega arith) (record { mark = says .mark; unused = says .unused; limits = valid-counts (decode b) (state-valid b i); debts = debts-fit (decode b) .1 (valid-given (decode b) (state-valid b i), valid-only-full (decode b) (state-valid b i)) })
 
     pub state-contents : T (contentsLegal b)
     unfolding waitingHostsUp hostUp namedSpacesOpen openToProcess waitingCanWait mayWait

@@ -62,7 +62,7 @@ fn may_wait(waiting: &[u8], n: usize, i: usize, spaces: &[u8], m: usize, up: u16
     requires { ⌜ IsQueued (now waiting) n × (i < n) × IsListed (now spaces) m × Rising (spacesOf (now spaces) m) ⌝ }
     ensures { λ r. ⌜ r ≡ mayWait (bits hosts up) (spacesOf (now (spaces .entry)) m) (waitingNth (now (waiting .entry)) n i) ⌝ }
 {
-    if !hosts::host_up(up, queue::host(waiting, n, i)) {
+    if !hosts::has_host(up, queue::host(waiting, n, i)) {
         return false;
     }
     let at = queue::body_at(i);

@@ -1,6 +1,6 @@
 -- One turn of rule 7: who runs, and that its count of bytes tells whether one did. Assumes nothing.
 use mathlib.Core.Path.{_≡_, refl, sym, ap, subst, _∙_}
-use Prim.Native.Nat.{ℕ, _≤_, _<_}
+use Prim.Native.Nat.{ℕ, _*_, _≤_, _<_}
 use native.Mathlib.Omega.{arith}
 use mathlib.Core.Option.{Option, none, some, Option·getD}
 use mathlib.Core.List.{List, [], _∷_, flatMap}
@@ -10,15 +10,16 @@ use lib.Dec.{T-not}
 use Rattle.basis.specs.Choice.{maybe}
 use Rattle.basis.specs.Lists.{Found, first, removeAt}
 use Rattle.basis.specs.ListLaws.{first-some, first-below}
-use Rattle.basis.specs.Sizes.{replyHeaderSize}
+use Rattle.basis.specs.Sizes.{replyHeaderSize, mostReply}
 use Rattle.model.specs.Matching.{Tuple}
 use Rattle.model.specs.Execution.{Executed, attempt, tuplesAfter}
-use Rattle.model.specs.Run.{Waiting, Run, withTuples, withWaiting, ranReply, Turn, wokenBy, wake}
+use Rattle.model.specs.Run.{Waiting, Run, withTuples, withWaiting, laid, ranReply, Turn, wokenBy, wake}
+use Rattle.model.specs.Debts.{laid-waiting}
 use Rattle.model.specs.Settle.{attempt-none, wake-some}
 use Rattle.layout.specs.States.{decode}
 use Rattle.layout.specs.Replies.{repliesBytes}
 use Rattle.layout.specs.ReplyLaws.{reply-length}
-use Rattle.layout.specs.Stored.{IsStored, Turned, statementOf}
+use Rattle.layout.specs.Stored.{Stored, IsStored, Turned, statementOf}
 use Rattle.header.specs.StoredLaws.{stored-says}
 use Rattle.replies.specs.TurnLaws.{one-reply}
 use Rattle.queue.specs.PlaceLaws.{noWaiting}
@@ -152,3 +153,12 @@ module _ (b : List ℕ) (ts : List Tuple) (ws : List Waiting) (r : Oldest) (h : 
 
   pub wakes-some : (i : ℕ) (buffer state out : List ℕ) (n : ℕ) → r ≡ At i → Turned (wokenAt (decode b) i) buffer state out n → Turned (woken (decode b)) buffer state out n
   wakes-some i buffer state out n q t = subst (λ (t : Turn). Turned t buffer state out n) (wakes-at i q .turn) t
+
+-- ---- once what is owed is laid
+
+-- as many wait
+pub laid-room : (b b₁ : List ℕ) (room : ℕ) → Stored b₁ (laid (decode b)) → mostReply * length ((decode b) .waiting) ≤ room → mostReply * length ((decode b₁) .waiting) ≤ room
+laid-room b b₁ room k h = rw (stored-says b₁ (laid (decode b)) k, laid-waiting (decode b)) h
+
+pub laid-turn : (b b₁ buffer state out : List ℕ) (n : ℕ) → Stored b₁ (laid (decode b)) → Turned (woken (decode b₁)) buffer state out n → Turned (woken (laid (decode b))) buffer state out n
+laid-turn b b₁ buffer state out n k t = subst (λ (s : Run). Turned (woken s) buffer state out n) (stored-says b₁ (laid (decode b)) k) t

@@ -2,7 +2,7 @@
 ghost use Prim.Native.Nat.{_+_, _*_, _≤_, _<_};
 ghost use lib.ListN.{length};
 ghost use Rattle.basis.specs.Sizes.{mostReply};
-ghost use Rattle.model.specs.Run.{settle as settles};
+ghost use Rattle.model.specs.Run.{laid, settle as settles};
 ghost use Rattle.layout.specs.States.{decode};
 ghost use Rattle.layout.specs.Stored.{IsStored, Turned};
 ghost use Rattle.wakes.specs.Woken.{Further, wokenAt, woken};
@@ -36,14 +36,23 @@ fn wake_one(state: &mut [u8], out: &mut [u8]) -> usize
     }
 }
 
+// "before each search of the waiting queue": what is owed is laid, then one turn.
+fn lay_and_wake(state: &mut [u8], out: &mut [u8]) -> usize
+    requires { ⌜ IsStored (now state) × (mostReply * length ((decode (now state)) .waiting) ≤ length (now out)) ⌝ }
+    ensures { λ r. ⌜ Turned (woken (laid (decode (now (state .entry))))) (now (out .entry)) (now (state .exit)) (now (out .exit)) r × (r ≤ mostReply) ⌝ }
+{
+    notices::lay(state);
+    wake_one(state, out)
+}
+
 // Rule 7: "this repeats from the oldest until none holds". "Each further reply starts where the one before it ended", the first after own bytes.
 pub fn settle(state: &mut [u8], out: &mut [u8], own: usize) -> usize
     requires { ⌜ IsStored (now state) × (own + mostReply * length ((decode (now state)) .waiting) ≤ length (now out)) ⌝ }
-    ensures { λ r. ⌜ Further (settles (decode (now (state .entry)))) own (now (out .entry)) (now (state .exit)) (now (out .exit)) r ⌝ }
+    ensures { λ r. ⌜ Further (settles (laid (decode (now (state .entry))))) own (now (out .entry)) (now (state .exit)) (now (out .exit)) r ⌝ }
 {
     let mut at = own;
     loop {
-        let n = wake_one(state, &mut out[at..]);
+        let n = lay_and_wake(state, &mut out[at..]);
         if n == 0 {
             return at;
         }

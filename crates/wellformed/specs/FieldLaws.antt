@@ -1,7 +1,7 @@
 -- A row is the entry of a legal tuple exactly where its fields are: the used ones legal, the others zero. Assumes nothing.
 use mathlib.Core.Path.{_≡_, refl, sym, ap, _∙_}
 use mathlib.Core.Bool.{Bool, true, false, _&&_}
-use mathlib.Core.List.{List, [], _∷_, _++_, flatMap, foldl}
+use mathlib.Core.List.{List, [], _∷_, _++_, flatMap}
 use Prim.Native.Nat.{ℕ, zero, suc, _+_, _-_, _*_, _^_, _≤_, _<_}
 use native.Mathlib.Omega.{arith}
 use lib.ListN.{length, take, drop, getD, length-drop}
@@ -21,7 +21,7 @@ use Rattle.model.specs.Valid.{legalTuple}
 use Rattle.model.specs.Writing.{valueBytes}
 use Rattle.layout.specs.States.{tupleBytes}
 use Rattle.words.specs.Over.{zerosAt}
-use Rattle.words.specs.ZeroLaws.{and-true, zerosAt-one, zerosAt-add, zerosAt→zeros, zeros→zerosAt}
+use Rattle.words.specs.ZeroLaws.{and-assoc, number-zero, zerosAt-one, zerosAt-add, zerosAt→zeros, zeros→zerosAt}
 use Rattle.sections.specs.RowLaws.{number-written}
 use Rattle.tuples.specs.Section.{entryBytes, entryAt, tupleAt}
 use Rattle.tuples.specs.Entry.{isEntry, valueAt, valuesAt, valuesPlace, valueIn, valuesIn, eachField}
@@ -30,25 +30,6 @@ use Rattle.sections.specs.Rows.{HasRows}
 use Rattle.wellformed.specs.Fields.{isZero, fieldOk, fieldOkAt}
 
 -- ---- zeros
-
--- a number is 0 where its bytes are
-digit-zero : (n b : ℕ) → eqb (n * 256 + b) 0 ≡ (eqb n 0 && eqb b 0)
-digit-zero zero zero = refl
-digit-zero zero (suc b) = ne-eqb (zero * 256 + suc b) 0 (λ e. omega arith) ∙ sym (ne-eqb (suc b) 0 (λ e. omega arith))
-digit-zero (suc n) b = ne-eqb (suc n * 256 + b) 0 (λ e. omega arith) ∙ sym (ap (λ (t : Bool). t && eqb b 0) (ne-eqb (suc n) 0 (λ e. omega arith)))
-
-and-assoc : (a b c : Bool) → ((a && b) && c) ≡ (a && (b && c))
-and-assoc true b c = refl
-and-assoc false b c = refl
-
-digits-zero : (l : List ℕ) (n : ℕ) → eqb (foldl (λ n b. n * 256 + b) n l) 0 ≡ (eqb n 0 && all (λ b. eqb b 0) l)
-unfolding all
-digits-zero [] n = sym (and-true (eqb n 0))
-digits-zero (b ∷ l) n = digits-zero l (n * 256 + b) ∙ ap (λ (t : Bool). t && all (λ b. eqb b 0) l) (digit-zero n b) ∙ and-assoc (eqb n 0) (eqb b 0) (all (λ b. eqb b 0) l)
-
-number-zero : (l : List ℕ) → eqb (number l) 0 ≡ all (λ b. eqb b 0) l
-unfolding number
-number-zero l = digits-zero l 0
 
 -- a value is zero where its five bytes are
 value-zero : (p : List ℕ) (at : ℕ) → isZero (valueAt p at) ≡ zerosAt p at valueSize

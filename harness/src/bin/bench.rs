@@ -13,7 +13,7 @@
 //! takes beyond that.
 
 use harness::layout::STATE_BYTES;
-use harness::library::{Calls, LIBRARY, REFERENCE};
+use harness::library::{replica_layout, Calls, LIBRARY, REFERENCE};
 use harness::program::{path, printed, Pieces};
 use harness::ratios::line;
 use harness::rows::{self, Row, LIMITS};
@@ -137,6 +137,12 @@ impl Timed<'_> {
     }
 }
 
+/// The rows that are taken, without those of a layout after the library's.
+fn taken() -> impl Iterator<Item = Row> {
+    let layout = unsafe { replica_layout() };
+    rows::taken().into_iter().filter(move |row| row.since <= layout)
+}
+
 /// Both give the same answer, so that the same work is timed.
 fn agree(row: &Row) {
     let answer = |calls: Calls| {
@@ -147,10 +153,10 @@ fn agree(row: &Row) {
     assert!(answer(LIBRARY) == answer(REFERENCE), "{}", row.name);
 }
 
-fn print_taken(rows: &[Row], samples: usize, unit: f64, clock: f64) {
+fn print_taken(samples: usize, unit: f64, clock: f64) {
     println!("in units{:38} check of state            rest          whole call  second", "");
     println!("{:46}    least   median    least   median   ns, least  x whole", "");
-    for row in rows {
+    for row in &taken().collect::<Vec<Row>>() {
         agree(row);
         let [check, whole, rest] = Timed::new(LIBRARY, row, clock).taken(numbers(samples), 1);
         let [_, second, _] = Timed::new(REFERENCE, row, clock).taken(numbers(samples.div_ceil(20)), 1);
@@ -218,7 +224,7 @@ fn print_all(samples: usize) -> bool {
     let unit = unit(samples, clock);
     println!("A unit is the time of reading a state once: a pass over {STATE_BYTES} bytes that sums them up in words of 8.");
     println!("Here it is {:.0} ns at least, {:.0} ns in the median.\n", unit.least, unit.median);
-    print_taken(&rows::taken(), samples, unit.least, clock);
+    print_taken(samples, unit.least, clock);
     print_refused(&rows::refused(), samples, unit.least, clock);
     let kept = print_limits(samples, clock);
     if path().exists() {
@@ -239,8 +245,7 @@ fn plain(row: &Row, is_taken: bool, numbers: impl Iterator<Item = usize>, clock:
 
 /// Rows, and whether they are taken.
 fn all() -> impl Iterator<Item = (Row, bool)> {
-    let taken = rows::taken().into_iter().map(|row| (row, true));
-    taken.chain(rows::refused().into_iter().map(|row| (row, false)))
+    taken().map(|row| (row, true)).chain(rows::refused().into_iter().map(|row| (row, false)))
 }
 
 fn print_plain(samples: usize) {

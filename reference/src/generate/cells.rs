@@ -5,7 +5,7 @@ use super::coverage::Coverage;
 /// Every outcome of the own reply by mark.
 const OWN: [(&str, &[u8]); 6] = [
     ("RV", &[0, 6, 8]),
-    ("CR", &[0, 6, 7, 12]),
+    ("CR", &[0, 6, 7]),
     ("MO", &[0, 6, 7, 9, 14]),
     ("MS", &[0, 6, 7, 9, 14]),
     ("DS", &[0, 6, 7, 9, 10, 11, 15]),
@@ -211,6 +211,90 @@ const NUMBERS: [&str; 84] = [
     "refused 1 state spaces by their low bytes",
 ];
 
+/// What must occur of debts.
+const DEBTS: [&str; 80] = [
+    "CR owes all",
+    "CR owes some",
+    "CR owes none with room",
+    "CR fills the table",
+    "CR at 512 without monitors",
+    "CR owes 8",
+    "CR of a host owed already",
+    "CR of a host owed in part",
+    "CR owes beside another host",
+    "CR drops and owes",
+    "CR owes and lays",
+    "CR leaves an equal tuple",
+    "CR owes beside an equal tuple",
+    "CR 7 of an owed host",
+    "RV of an owed host",
+    "RV 0 beside a debt",
+    "RV 6 beside a debt",
+    "RV 8 beside a debt",
+    "CR 0 beside a debt",
+    "CR 6 beside a debt",
+    "CR 7 beside a debt",
+    "MO 0 beside a debt",
+    "MO 9 beside a debt",
+    "MO 14 beside a debt",
+    "MS 0 beside a debt",
+    "DS 0 beside a debt",
+    "DS 10 beside a debt",
+    "DS 15 beside a debt",
+    "AG 0 beside a debt",
+    "AG 6 beside a debt",
+    "AG 9 beside a debt",
+    "AG 10 beside a debt",
+    "AG 12 beside a debt",
+    "AG 16 beside a debt",
+    "AG 17 beside a debt",
+    "AG 18 beside a debt",
+    "AG waits beside a debt",
+    "AG takes and puts with the debt kept",
+    "AG moves with the debt kept",
+    "AG takes and is 12 beside a debt",
+    "AG takes and is 16 beside a debt",
+    "AG takes and is 17 beside a debt",
+    "woken takes and puts with the debt kept",
+    "woken takes and is 12 beside a debt",
+    "woken takes and is 16 beside a debt",
+    "woken 12 as the debt took the room",
+    "laid after an own statement",
+    "laid after a woken statement",
+    "laid after a woken statement wakes",
+    "laid after DS",
+    "laid after DS with an empty queue",
+    "laid with an empty queue",
+    "laid with others waiting",
+    "laid all with room left",
+    "laid all and the table full",
+    "laid in part",
+    "laid in turns",
+    "laid more than 16",
+    "laid to several monitors",
+    "laid several hosts of a monitor",
+    "laid of an up host",
+    "laid beside an equal tuple",
+    "laid tuple wakes",
+    "laid tuple wakes an in",
+    "laid tuple wakes a rd",
+    "laid tuple wakes an inp or rdp",
+    "laid tuple wakes formals",
+    "laid tuple wakes actuals",
+    "laid tuple wakes and it is 12",
+    "laid tuple wakes a body done",
+    "1 pair owed",
+    "more than 16 pairs owed",
+    "128 pairs owed",
+    "all hosts owed to a monitor",
+    "a host owed to 8 monitors",
+    "an up host owed",
+    "refused 1 state owed to a number not given",
+    "refused 1 state fewer monitors than owed",
+    "refused 1 state owed below 512 tuples",
+    "refused 1 state byte after the masks",
+];
+
 /// The cells that were reached and cannot occur: other outcomes, and more than 32 woken.
 pub fn impossible(coverage: &Coverage) -> Vec<String> {
     let mut found = Vec::new();
@@ -236,6 +320,23 @@ pub fn wanted() -> Vec<String> {
         cells.extend((1..=32).map(|count| format!("{cell} {count:02}")));
     }
     cells.extend((1..=5).map(|number| format!("refused {number}")));
+    cells.extend(wanted_of_debts());
+    cells
+}
+
+/// The cells of debts that must be reached.
+pub fn wanted_of_debts() -> Vec<String> {
+    let mut cells: Vec<String> = DEBTS.iter().map(|cell| cell.to_string()).collect();
+    for cell in ["owed to monitor", "laid to monitor"] {
+        cells.extend((1..=8).map(|monitor| format!("{cell} {monitor}")));
+    }
+    for cell in ["owed host", "laid host"] {
+        cells.extend((0..16).map(|host| format!("{cell} {host:02}")));
+    }
+    for answer in ["refused 1", "taken"] {
+        cells.extend((1..=16).map(|byte| format!("{answer} state owed byte {byte:02}")));
+    }
+    cells.extend(["a pair more", "a pair less"].map(|note| format!("taken state {note}")));
     cells
 }
 

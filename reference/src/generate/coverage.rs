@@ -1,7 +1,7 @@
 //! Counts of the cells that the steps of a stream reach.
 
 use super::matches::Match;
-use super::{match_cells, number_cells, Step};
+use super::{debt_cells, match_cells, number_cells, Step};
 use crate::call::split;
 use crate::layout::{read_state, REPLY_BYTES};
 use crate::run::{read_request, Mark, Request, Run};
@@ -73,8 +73,10 @@ impl Coverage {
         self.woken(mark, woken);
         self.tables(step, &after);
         self.sizes(mark, body, own);
+        let answer = own.map(|own| (own.outcome, own.branch));
+        self.count_all(debt_cells::of_step(&before, mark, body, answer));
+        self.count_all(debt_cells::of_state(&after));
         if let Some(request) = read_request(mark, body) {
-            let answer = own.map(|own| (own.outcome, own.branch));
             self.count_all(number_cells::of_request(&before, &request, answer));
             if let Some(own) = own {
                 self.causes(&before, &request, own, woken);

@@ -2,10 +2,10 @@
 
 use super::numbers::{self, low};
 use super::rng::Rng;
-use super::statements;
-use crate::layout::{encode, HEADER_USED, NEXT_AT, SPACES_AT, SPACE_BYTES, SPACE_COUNT_AT, STATE_BYTES};
-use crate::layout::{TUPLES_AT, TUPLE_BYTES, WAITING_AT, WAITING_BYTES};
-use crate::run::{Mark, Run, Tuple, NUMBERS_USED_UP};
+use super::{debts, statements};
+use crate::layout::{encode, HEADER_USED, NEXT_AT, OWED_AT, OWED_BYTES, SPACES_AT, SPACE_BYTES};
+use crate::layout::{SPACE_COUNT_AT, STATE_BYTES, TUPLES_AT, TUPLE_BYTES, WAITING_AT, WAITING_BYTES};
+use crate::run::{Mark, Run, Tuple, MOST_MONITORS, MOST_TUPLES, NUMBERS_USED_UP};
 use crate::statement::{self, Branch, Field, Operation, SpaceNumber, Statement};
 use crate::statement::{COPY, IN, INP, MOVE, OUT, RD, RDP, TRUE};
 use crate::value::{metres, name, whole, Value, METRES, NAME, WHOLE};
@@ -192,6 +192,14 @@ pub fn record(rng: &mut Rng, record: Vec<u8>, last: u32) -> (Vec<u8>, &'static s
 /// A damaged state: of another length, with bytes changed, or with its lists broken.
 pub fn state(rng: &mut Rng, good: &Run) -> (Vec<u8>, &'static str) {
     let mut bytes = encode(good);
+    let often = match good.tuples.len() {
+        MOST_TUPLES => 60,
+        _ if debts::is_nearly_full(good) => 75,
+        _ => 8,
+    };
+    if rng.percent(often) {
+        return debt(rng, good, bytes);
+    }
     match rng.below(24) {
         0 => {
             let length = rng.pick(&[0, 1, 64, STATE_BYTES - 1, STATE_BYTES + 1]);
@@ -216,6 +224,68 @@ const NEXT_BYTES: [&str; 4] =
 
 const COUNT_BYTES: [&str; 4] =
     ["count of spaces", "count of tuples byte 1", "count of tuples byte 2", "count of waiting"];
+
+const OWED_BYTE: [&str; OWED_BYTES] = [
+    "owed byte 01",
+    "owed byte 02",
+    "owed byte 03",
+    "owed byte 04",
+    "owed byte 05",
+    "owed byte 06",
+    "owed byte 07",
+    "owed byte 08",
+    "owed byte 09",
+    "owed byte 10",
+    "owed byte 11",
+    "owed byte 12",
+    "owed byte 13",
+    "owed byte 14",
+    "owed byte 15",
+    "owed byte 16",
+];
+
+/// A debt changed, which leaves a state where it may be so; or the byte after the masks.
+fn debt(rng: &mut Rng, good: &Run, bytes: Vec<u8>) -> (Vec<u8>, &'static str) {
+    let mut run = good.clone();
+    match rng.below(12) {
+        0..=7 => one_of(rng, bytes, OWED_AT, &OWED_BYTE),
+        8 => one_of(rng, bytes, HEADER_USED, &["byte after the masks"]),
+        _ => match debt_lists(rng, &mut run) {
+            Some(note) => (encode(&run), note),
+            None => one_of(rng, bytes, OWED_AT, &OWED_BYTE),
+        },
+    }
+}
+
+/// A pair more or less, or one that may not be owed; None where the run has no such.
+fn debt_lists(rng: &mut Rng, run: &mut Run) -> Option<&'static str> {
+    let host = rng.below(16) as u8;
+    let number = 1 + rng.below(usize::from(run.monitors.max(1))) as u8;
+    let given = run.monitors > 0;
+    let full = run.tuples.len() == MOST_TUPLES;
+    match rng.below(5) {
+        0 if full && run.monitors < MOST_MONITORS => {
+            run.owed.insert((run.monitors + 1, host));
+            Some("owed to a number not given")
+        }
+        1 => {
+            run.monitors = run.owed.last()?.0 - 1;
+            Some("fewer monitors than owed")
+        }
+        2 if full && given && run.owed.insert((number, host)) => Some("a pair more"),
+        3 if run.owed.len() > 1 => {
+            run.owed.pop_first();
+            Some("a pair less")
+        }
+        _ if given => {
+            run.owed.insert((number, host));
+            let gone = if full { rng.pick(&[1, 1, 2, 256, MOST_TUPLES]) } else { 0 };
+            run.tuples.truncate(run.tuples.len() - gone);
+            Some("owed below 512 tuples")
+        }
+        _ => None,
+    }
+}
 
 /// Changes one of the bytes that stand from a place on, each with its note.
 fn one_of(

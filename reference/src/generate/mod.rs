@@ -3,6 +3,8 @@
 pub mod cells;
 pub mod coverage;
 pub mod damage;
+pub mod debt_cells;
+pub mod debts;
 pub mod long;
 pub mod match_cells;
 pub mod matches;
@@ -29,9 +31,10 @@ pub enum Profile {
     Monitors,
     Arithmetic,
     Damage,
+    Debts,
 }
 
-pub const PROFILES: [Profile; 7] = [
+pub const PROFILES: [Profile; 8] = [
     Profile::Ordinary,
     Profile::Full,
     Profile::Waiting,
@@ -39,6 +42,7 @@ pub const PROFILES: [Profile; 7] = [
     Profile::Monitors,
     Profile::Arithmetic,
     Profile::Damage,
+    Profile::Debts,
 ];
 
 impl Profile {
@@ -51,6 +55,7 @@ impl Profile {
             Profile::Monitors => "monitors",
             Profile::Arithmetic => "arithmetic",
             Profile::Damage => "damage",
+            Profile::Debts => "debts",
         }
     }
 }
@@ -98,7 +103,10 @@ impl Stream {
         let profile = PROFILES[(number % PROFILES.len() as u64) as usize];
         let mut state = vec![0; STATE_BYTES];
         fresh(&mut state);
-        let often = if matches!(profile, Profile::Waiting | Profile::Spaces) { 85 } else { 60 };
+        let often = match profile {
+            Profile::Waiting | Profile::Spaces | Profile::Debts => 85,
+            _ => 60,
+        };
         let good = if rng.percent(often) { start::built(&mut rng, profile) } else { Run::fresh() };
         Stream { rng, profile, state, good }
     }
@@ -141,13 +149,21 @@ impl Stream {
 
     /// Makes the next call.
     pub fn step(&mut self) -> Step {
-        let idle = self.profile == Profile::Waiting && self.good.waiting.is_empty();
+        let idle = match self.profile {
+            Profile::Waiting => self.good.waiting.is_empty(),
+            Profile::Debts => self.good.owed.is_empty(),
+            _ => false,
+        };
         if self.good.last == u32::MAX && self.rng.percent(70) || idle && self.rng.percent(20) {
             self.good = start::built(&mut self.rng, self.profile);
         }
         let (record, record_note) = self.record();
         let good = encode(&self.good);
-        let often = if self.profile == Profile::Damage { 20 } else { 3 };
+        let often = match self.profile {
+            Profile::Damage => 20,
+            Profile::Debts => 10,
+            _ => 3,
+        };
         let (before, state_note) = if self.rng.percent(often) {
             damage::state(&mut self.rng, &self.good)
         } else {
@@ -207,8 +223,15 @@ impl Stream {
         if hosts == 0 && self.rng.percent(90) {
             return Mark::Rv;
         }
-        let rv = if hosts < 3 { 12 } else { 2 };
+        let rv = match self.profile {
+            Profile::Debts if hosts >= 6 => 5,
+            _ if hosts < 3 => 12,
+            Profile::Debts => 12,
+            _ => 2,
+        };
         let (cr, mo, ms, ds) = match self.profile {
+            Profile::Debts if debts::is_nearly_full(&self.good) => (14, 4, 2, 8),
+            Profile::Debts => (4, 6, 5, 2),
             Profile::Spaces => (1, 1, 14, 12),
             Profile::Monitors => (14, 8, 1, 1),
             Profile::Full => (5, 2, 2, 1),
@@ -249,9 +272,13 @@ impl Stream {
         let fit: Vec<u8> = (0..16).filter(|host| self.good.up[usize::from(*host)] == wanted).collect();
         let crowd: Vec<u8> = self.good.waiting.iter().map(|w| w.statement.host).collect();
         let often = if mark == Mark::Rv { 10 } else { 4 };
+        let owed = debts::owed_hosts(&self.good, wanted);
+        let dropped = if self.profile == Profile::Debts { 15 } else { 60 };
         if fit.is_empty() || self.rng.percent(often) {
             self.rng.below(16) as u8
-        } else if mark == Mark::Cr && !crowd.is_empty() && self.rng.percent(60) {
+        } else if matches!(mark, Mark::Rv | Mark::Cr) && !owed.is_empty() && self.rng.percent(40) {
+            self.rng.pick(&owed)
+        } else if mark == Mark::Cr && !crowd.is_empty() && self.rng.percent(dropped) {
             self.rng.pick(&crowd)
         } else {
             self.rng.pick(&fit)
@@ -277,6 +304,10 @@ impl Stream {
         let own: Vec<SpaceNumber> =
             open.iter().copied().filter(|n| *n > 0 && self.good.is_open_to(*n, process)).collect();
         let ends = self.ends();
+        let filled = debts::filled(&self.good, &own);
+        if self.profile == Profile::Debts && !filled.is_empty() && self.rng.percent(70) {
+            return self.rng.pick(&filled);
+        }
         match self.rng.below(12) {
             0 => self.good.spaces.last().map_or(0, |space| space.number),
             1 | 2 => numbers::closed(&mut self.rng, &self.good),

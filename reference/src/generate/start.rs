@@ -1,6 +1,6 @@
 //! Starting states built for a profile: nearly full, many waiting, and so on.
 
-use super::numbers;
+use super::{debts, numbers};
 use super::rng::Rng;
 use super::statements::{signal, wide, Intent, Maker};
 use super::Profile;
@@ -22,13 +22,22 @@ pub fn free_process(rng: &mut Rng, run: &Run) -> u16 {
 pub fn built(rng: &mut Rng, profile: Profile) -> Run {
     let mut run = Run::fresh();
     run.last = rng.below(1000) as u32;
-    for _ in 0..3 {
+    let hosts = if profile == Profile::Debts { rng.pick(&[3, 6, 12, 60]) } else { 3 };
+    for _ in 0..hosts {
         run.up[rng.below(16)] = true;
     }
     run.up[2] = true;
-    run.monitors = if profile == Profile::Monitors { 5 + rng.below(4) } else { rng.below(3) } as u8;
+    run.monitors = match profile {
+        Profile::Monitors => 5 + rng.below(4),
+        Profile::Debts => debts::monitors(rng),
+        _ => rng.below(3),
+    } as u8;
     open_spaces(rng, profile, &mut run);
     fill(rng, profile, &mut run);
+    if profile == Profile::Debts {
+        debts::replace_some(rng, &mut run);
+        debts::owe(rng, &mut run);
+    }
     match profile {
         Profile::Waiting => crowd(rng, &mut run),
         _ => {
@@ -67,13 +76,18 @@ fn open_spaces(rng: &mut Rng, profile: Profile, run: &mut Run) {
 
 fn fill(rng: &mut Rng, profile: Profile, run: &mut Run) {
     let full = profile == Profile::Full || profile == Profile::Monitors && rng.percent(25);
-    let count = if full { MOST_TUPLES - rng.below(8) } else { rng.below(9) };
+    let count = match profile {
+        Profile::Debts => debts::count(rng),
+        _ if full => MOST_TUPLES - rng.below(8),
+        _ => rng.below(9),
+    };
+    let zero = if profile == Profile::Debts { rng.pick(&[70, 95, 99]) } else { 70 };
     let spaces: Vec<SpaceNumber> = run.spaces.iter().map(|space| space.number).collect();
     for i in 0..count {
         let mut values = vec![whole(i as i32), name(7), metres(0x3F00_0000)];
         values.rotate_left(rng.below(3));
         values.truncate(1 + rng.below(3));
-        let space = if rng.percent(70) { 0 } else { rng.pick(&spaces) };
+        let space = if rng.percent(zero) { 0 } else { rng.pick(&spaces) };
         run.tuples.push(Tuple { space, values });
     }
 }
@@ -82,7 +96,9 @@ fn fill(rng: &mut Rng, profile: Profile, run: &mut Run) {
 fn add_waiting(rng: &mut Rng, profile: Profile, run: &mut Run, host: u8) {
     let process = free_process(rng, run);
     let before = run.clone();
-    let statement = Maker::new(rng, &before, profile, host, process).statement_for(Intent::Wait);
+    let watches = profile == Profile::Debts && rng.percent(60);
+    let mut maker = Maker::new(rng, &before, profile, host, process);
+    let statement = if watches { maker.watch() } else { maker.statement_for(Intent::Wait) };
     let position = run.last + 1 + rng.below(3) as u32;
     run.step(position, Mark::Ag, &statement::write(&statement));
 }

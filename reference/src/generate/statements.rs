@@ -1,7 +1,7 @@
 //! Statements made for a run, each with an ending in view.
 
 use super::rng::Rng;
-use super::{long, numbers, Profile};
+use super::{debts, long, numbers, Profile};
 use crate::run::{Run, Tuple};
 use crate::statement::{self, Branch, Field, Operation, SpaceNumber, Statement};
 use crate::statement::{COPY, IN, INP, MOVE, OUT, RD, RDP, TRUE};
@@ -20,20 +20,21 @@ pub enum Intent {
     Foreign,
     Wide,
     Long,
+    Debt,
 }
 
 /// Variables bound so far, with the value expected of each.
-type Bound = Vec<(u8, Value)>;
+pub type Bound = Vec<(u8, Value)>;
 
 pub struct Maker<'a> {
-    rng: &'a mut Rng,
-    run: &'a Run,
+    pub(super) rng: &'a mut Rng,
+    pub(super) run: &'a Run,
     profile: Profile,
-    host: u8,
-    process: u16,
+    pub(super) host: u8,
+    pub(super) process: u16,
 }
 
-fn operation(code: u8, spaces: Vec<SpaceNumber>, fields: Vec<Field>) -> Operation {
+pub fn operation(code: u8, spaces: Vec<SpaceNumber>, fields: Vec<Field>) -> Operation {
     Operation { code, spaces, fields }
 }
 
@@ -105,6 +106,9 @@ impl<'a> Maker<'a> {
         if self.profile == Profile::Full && self.run.tuples.len() < 256 && self.rng.percent(50) {
             return Grow;
         }
+        if self.profile == Profile::Debts && !debts::is_nearly_full(self.run) && self.rng.percent(60) {
+            return Grow;
+        }
         if self.run.waiting.len() == 32 && self.rng.percent(25) {
             return Wait;
         }
@@ -118,14 +122,15 @@ impl<'a> Maker<'a> {
             }
         }
         let weights = match self.profile {
-            //                done feed wait 18 16 sum grow foreign wide long
-            Profile::Full => [40, 12, 8, 2, 4, 12, 20, 1, 0, 1],
-            Profile::Waiting => [20, 30, 30, 2, 3, 4, 1, 2, 8, 2],
-            Profile::Spaces => [44, 12, 14, 3, 3, 3, 2, 36, 0, 3],
-            Profile::Arithmetic => [15, 15, 12, 2, 2, 50, 0, 1, 0, 0],
-            _ => [42, 18, 16, 4, 5, 6, 2, 4, 1, 3],
+            //                done feed wait 18 16 sum grow foreign wide long debt
+            Profile::Full => [40, 12, 8, 2, 4, 12, 20, 1, 0, 1, 4],
+            Profile::Waiting => [20, 30, 30, 2, 3, 4, 1, 2, 8, 2, 0],
+            Profile::Spaces => [44, 12, 14, 3, 3, 3, 2, 36, 0, 3, 0],
+            Profile::Arithmetic => [15, 15, 12, 2, 2, 50, 0, 1, 0, 0, 0],
+            Profile::Debts => [14, 6, 8, 1, 1, 3, 2, 1, 0, 1, 63],
+            _ => [42, 18, 16, 4, 5, 6, 2, 4, 1, 3, 0],
         };
-        let intents = [Done, Feed, Wait, Eighteen, Sixteen, Sum, Grow, Foreign, Wide, Long];
+        let intents = [Done, Feed, Wait, Eighteen, Sixteen, Sum, Grow, Foreign, Wide, Long, Debt];
         intents[self.rng.weighted(&weights)]
     }
 
@@ -141,6 +146,9 @@ impl<'a> Maker<'a> {
         if intent == Intent::Long {
             let open = self.open();
             return long::statement(self.rng, &open, self.host, self.process);
+        }
+        if intent == Intent::Debt {
+            return self.about_debts();
         }
         let count = self.rng.pick(&[1, 1, 1, 1, 2, 2, 3, 4]);
         let chosen = self.rng.below(count);
@@ -197,9 +205,10 @@ impl<'a> Maker<'a> {
     }
 
     /// An operation that most likely finds nothing yet.
-    fn absent(&mut self, code: u8, bound: &mut Bound) -> Operation {
+    pub(super) fn absent(&mut self, code: u8, bound: &mut Bound) -> Operation {
         let space = self.space();
-        if self.profile == Profile::Monitors && self.rng.percent(60) {
+        let watches = matches!(self.profile, Profile::Monitors | Profile::Debts);
+        if watches && self.rng.percent(60) {
             return self.notice(code, bound);
         }
         let mark = name(900 + self.rng.below(6) as u16);
@@ -214,19 +223,8 @@ impl<'a> Maker<'a> {
         operation(code, vec![space], fields)
     }
 
-    /// A template for a crash notice.
-    fn notice(&mut self, code: u8, bound: &mut Bound) -> Operation {
-        let host = self.rng.below(16) as i32;
-        let values = [name(1), whole(1 + self.rng.below(3) as i32), whole(host)];
-        let before = Bound::new();
-        let mut fields = vec![Field::Given(values[0])];
-        fields.push(self.cover(&values[1], &before, bound, true));
-        fields.push(if self.rng.percent(60) { Field::Any { kind: WHOLE } } else { Field::Given(values[2]) });
-        operation(code, vec![0], fields)
-    }
-
     /// A tuple present in a space open to the process.
-    fn found(&mut self) -> Option<Tuple> {
+    pub(super) fn found(&mut self) -> Option<Tuple> {
         let run = self.run;
         let open: Vec<&Tuple> =
             run.tuples.iter().filter(|tuple| run.is_open_to(tuple.space, self.process)).collect();
@@ -237,12 +235,18 @@ impl<'a> Maker<'a> {
     }
 
     /// A template that the tuple matches, if the values expected are right.
-    fn template(&mut self, tuple: &Tuple, bound: &mut Bound, binds: bool) -> Vec<Field> {
+    pub(super) fn template(&mut self, tuple: &Tuple, bound: &mut Bound, binds: bool) -> Vec<Field> {
         let before = bound.clone();
         tuple.values.iter().map(|value| self.cover(value, &before, bound, binds)).collect()
     }
 
-    fn cover(&mut self, value: &Value, before: &Bound, bound: &mut Bound, binds: bool) -> Field {
+    pub(super) fn cover(
+        &mut self,
+        value: &Value,
+        before: &Bound,
+        bound: &mut Bound,
+        binds: bool,
+    ) -> Field {
         let same = before.iter().find(|(_, other)| other == value);
         let variable = self.rng.below(16) as u8;
         let free = !bound.iter().any(|(other, _)| *other == variable);
@@ -262,7 +266,7 @@ impl<'a> Maker<'a> {
     }
 
     /// The spaces open to the process.
-    fn open(&self) -> Vec<SpaceNumber> {
+    pub(super) fn open(&self) -> Vec<SpaceNumber> {
         let numbers = self.run.spaces.iter().map(|space| space.number);
         numbers.filter(|number| self.run.is_open_to(*number, self.process)).collect()
     }
@@ -290,7 +294,7 @@ impl<'a> Maker<'a> {
 
     // ---- Bodies ----
 
-    fn body(&mut self, bound: &mut Bound) -> Vec<Operation> {
+    pub(super) fn body(&mut self, bound: &mut Bound) -> Vec<Operation> {
         let count = self.rng.pick(&[0, 1, 1, 2, 2, 3, 4, 8]);
         let mut body = Vec::new();
         for _ in 0..count {
@@ -323,7 +327,7 @@ impl<'a> Maker<'a> {
         operation(code, vec![from, to], fields)
     }
 
-    fn out(&mut self, bound: &Bound) -> Operation {
+    pub(super) fn out(&mut self, bound: &Bound) -> Operation {
         let space = self.space();
         let count = self.rng.pick(&[1, 2, 2, 2, 3, 6]);
         let fields = (0..count).map(|_| self.out_field(bound)).collect();
@@ -353,24 +357,28 @@ impl<'a> Maker<'a> {
     /// Deposits what some waiting guard looks for, among others.
     fn feeding(&mut self, bound: &mut Bound) -> Vec<Operation> {
         let mut body = if self.rng.percent(30) { self.body(bound) } else { Vec::new() };
-        let guards: Vec<&Operation> = self
-            .run
-            .waiting
-            .iter()
-            .flat_map(|entry| entry.statement.branches.iter().map(|branch| &branch.guard))
-            .filter(|guard| self.run.is_open_to(guard.spaces[0], self.process))
-            .collect();
         for _ in 0..self.rng.pick(&[1, 1, 2, 3]) {
-            if guards.is_empty() {
-                body.push(self.out(bound));
-                continue;
-            }
-            let guard = self.rng.pick(&guards);
-            let fields = guard.fields.iter().map(|field| self.fill(field)).collect();
-            body.push(operation(OUT, guard.spaces.clone(), fields));
+            body.push(self.meeting(bound));
         }
         body.truncate(8);
         body
+    }
+
+    /// An out of what some waiting guard looks for; of anything where none waits.
+    pub(super) fn meeting(&mut self, bound: &Bound) -> Operation {
+        let run = self.run;
+        let guards: Vec<&Operation> = run
+            .waiting
+            .iter()
+            .flat_map(|entry| entry.statement.branches.iter().map(|branch| &branch.guard))
+            .filter(|guard| run.is_open_to(guard.spaces[0], self.process))
+            .collect();
+        if guards.is_empty() {
+            return self.out(bound);
+        }
+        let guard = self.rng.pick(&guards);
+        let fields = guard.fields.iter().map(|field| self.fill(field)).collect();
+        operation(OUT, guard.spaces.clone(), fields)
     }
 
     fn fill(&mut self, field: &Field) -> Field {
@@ -428,6 +436,9 @@ impl<'a> Maker<'a> {
             let pair = [1, 2].map(|i| operation(OUT, vec![0], vec![Field::Given(whole(i)); i as usize]));
             return pair.into_iter().chain(vec![copy; 6]).collect();
         }
+        if self.profile == Profile::Debts {
+            return self.filling();
+        }
         if count.is_power_of_two() && count < 512 && self.rng.percent(70) {
             return vec![copy; (512 / count).ilog2().min(8) as usize];
         }
@@ -463,7 +474,7 @@ impl<'a> Maker<'a> {
 }
 
 /// Takes operations and branches off the end until the body has at most 250 bytes.
-fn shorten(statement: &mut Statement) {
+pub fn shorten(statement: &mut Statement) {
     while statement::write(statement).len() > statement::MOST_BYTES {
         let last = statement.branches.len() - 1;
         if statement.branches[last].body.pop().is_none() {

@@ -17,7 +17,7 @@ module _ (c : tie.After-answer-up-arg2) where
   first = done .before .before .before .before
 
 answer-up-requires : tie.Need-answer-up-requires
-answer-up-requires c κs = (said _ _ (done c .crash .ensures), first c .pre .4)
+answer-up-requires c κs = (said _ _ (done c .crash .ensures), first c .pre .3)
 
 same-length : tie.Need-same-length
 same-length c = done (c .before .before .before) .crash .kept .0

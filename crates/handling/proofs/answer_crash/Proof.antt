@@ -44,8 +44,7 @@ take-crash-requires c κs =
     let a = start m .args in
     let k = m .refuse-crash in
     let z = none-refuses (decode (a .state .now)) (request m) (k .result) (k .ensures) (test .if1 .left) in
-    let y = may-crash (decode (a .state .now)) (a .host) z in
-    (start m .pre .0, start m .pre .1, y .0, y .1, omega (arith, start m .pre .2))
+    (start m .pre .0, start m .pre .1, may-crash (decode (a .state .now)) (a .host) z, omega (arith, start m .pre .2))
 
 same-length-3 : tie.Need-same-length-3
 same-length-3 c = search needs

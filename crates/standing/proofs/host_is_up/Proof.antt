@@ -12,15 +12,15 @@ use Rattle.standing.proofs.host_is_up.Tie as tie
 hosts-requires : tie.Need-hosts-requires
 hosts-requires c κs = omega arith
 
-host-up-requires : tie.Need-host-up-requires
-host-up-requires c κs = search needs
+has-host-requires : tie.Need-has-host-requires
+has-host-requires c κs = search needs
 
 returns : tie.Need-returns
 unfolding hostUp
 returns c =
     let mask = c .before in
     let s = mask .before .before in
-    c .host-up .ensures ∙ ap (λ (up : List Bool). getD up (s .args .host) false) (mask .hosts .ensures .0)
+    c .has-host .ensures ∙ ap (λ (up : List Bool). getD up (s .args .host) false) (mask .hosts .ensures .0)
 
 pub host-is-up-spec : {M : Type 1} → statement M
-host-is-up-spec = tie.close (tie.spec hosts-requires host-up-requires returns)
+host-is-up-spec = tie.close (tie.spec hosts-requires has-host-requires returns)

@@ -12,13 +12,13 @@ use Rattle.waiting.proofs.may_wait.Tie as tie
 host-requires : tie.Need-host-requires
 host-requires c κs = search needs
 
-host-up-requires : tie.Need-host-up-requires
-host-up-requires c κs = search needs
+has-host-requires : tie.Need-has-host-requires
+has-host-requires c κs = search needs
 
 returns : tie.Need-returns
 returns c =
     let up = c .before in
-    no-host _ _ 0 _ (let s = up .before .before .before .before in (waitingNth (s .args .waiting .now) (s .args .n) (s .args .i))) noStatement _ (up .before .host .ensures .0) (up .host-up .ensures) (not-true (up .host-up .result) (c .if1 .taken))
+    no-host _ _ 0 _ (let s = up .before .before .before .before in (waitingNth (s .args .waiting .now) (s .args .n) (s .args .i))) noStatement _ (up .before .host .ensures .0) (up .has-host .ensures) (not-true (up .has-host .result) (c .if1 .taken))
 
 body-at-requires : tie.Need-body-at-requires
 body-at-requires c κs = search needs
@@ -65,7 +65,7 @@ returns-2 c =
     let s = first process in
     let else = size .before .before in
     let up = else .before in
-    no-space _ _ _ _ (waitingNth (s .args .waiting .now) (s .args .n) (s .args .i)) _ _ (up .before .host .ensures .0) (up .host-up .ensures) (not-false _ (else .if1 .left)) (process .process .ensures)
+    no-space _ _ _ _ (waitingNth (s .args .waiting .now) (s .args .n) (s .args .i)) _ _ (up .before .host .ensures .0) (up .has-host .ensures) (not-false _ (else .if1 .left)) (process .process .ensures)
     (body-statement (s .args .waiting .now) (s .args .n) (s .args .i) (s .pre .0) (s .pre .1) _ _ (size .body-length .ensures .0) (size .before .body-at .ensures)) _ (named .some-named .ensures) (c .if2 .taken)
 
 add-can-wait : tie.Need-add-can-wait
@@ -101,7 +101,7 @@ returns-3 c =
     let else = size .before .before in
     let up = else .before in
     c .can-wait .ensures
-    ∙ then-can _ _ _ _ (waitingNth (s .args .waiting .now) (s .args .n) (s .args .i)) _ _ (up .before .host .ensures .0) (up .host-up .ensures) (not-false _ (else .if1 .left)) (process .process .ensures)
+    ∙ then-can _ _ _ _ (waitingNth (s .args .waiting .now) (s .args .n) (s .args .i)) _ _ (up .before .host .ensures .0) (up .has-host .ensures) (not-false _ (else .if1 .left)) (process .process .ensures)
     (body-statement (s .args .waiting .now) (s .args .n) (s .args .i) (s .pre .0) (s .pre .1) _ _ (size .body-length .ensures .0) (size .before .body-at .ensures)) _ (named .some-named .ensures) (shown .if2 .left)
 
 pub may-wait-spec : {M : Type 1} → statement M
@@ -109,7 +109,7 @@ may-wait-spec =
     tie.close
     (tie.spec
     host-requires
-    host-up-requires
+    has-host-requires
     returns
     body-at-requires
     body-length-requires

@@ -1,8 +1,8 @@
--- `state::failure_tuple` meets its contract. Assumes nothing.
-use Rattle.state.specs.TupleChanges.{failure-written}
+-- `notices::failure_tuple` meets its contract. Assumes nothing.
+use Rattle.notices.specs.NoticeLaws.{failure-written}
 use borrow.Author.Needs.{needs}
-use Rattle.state.proofs.failure_tuple.Statement.{statement}
-use Rattle.state.proofs.failure_tuple.Tie as tie
+use Rattle.notices.proofs.failure_tuple.Statement.{statement}
+use Rattle.notices.proofs.failure_tuple.Tie as tie
 
 begin-entry-requires : tie.Need-begin-entry-requires
 begin-entry-requires c κs = search needs

@@ -1,0 +1,4 @@
+pub mod Pairs
+pub mod NoticeLaws
+pub mod PairLaws
+pub mod Walks
