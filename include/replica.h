@@ -106,7 +106,7 @@ uint64_t replica_fresh(uint8_t *state, size_t state_length);
  * Positions go from 1 to 4,294,967,295; after the last no record is taken.
  *
  * A call that was cut (power lost, task stopped) may leave any bytes, and most of what it leaves passes as a state: a
- * call that wakes a statement was stopped after each of its 43,360 instructions, and at 85 percent of them the buffer
+ * call that wakes a statement was stopped after each of its 43,417 instructions, and at 84 percent of them the buffer
  * would have been taken for a state, though it was neither the one before nor the one after. Do not go on from it.
  * Only two restarts are right: replica_fresh, or a whole copy of a state that another replica held between calls.
  */

@@ -12,12 +12,12 @@ use Rattle.calls.specs.TwoReplicas.{Side, Held, Event, Befalls, begin, e
 use Rattle.calls.specs.Theorem.{theorem}
 
 -- the bytes of the owed masks
-abbrev pub owedPart : Bytes → Bytes
-owedPart b = take (mostMonitors * maskWidth) (drop owedAt b)
+abbrev pub maskBytes : Bytes → Bytes
+maskBytes b = take (mostMonitors * maskWidth) (drop owedAt b)
 
 -- of any two states that the replicas held between calls at one position, on one replica or on both, at whatever times: the masks have the same bytes, and say the same pairs
 pub record OweTheSame (h k : Held) : Type 0 where
-  pub bytes : owedPart (h .bytes) ≡ owedPart (k .bytes)
+  pub bytes : maskBytes (h .bytes) ≡ maskBytes (k .bytes)
   pub pairs : (m g : ℕ) → Owes (decode (h .bytes)) m g ↔ Owes (decode (k .bytes)) m g
 
 pub same-debts : (buffers : Side → Bytes) → ((c : Side) → length (buffers c) ≡ stateSize) → (es : List Event) → Befalls freshCall takeCall (begin freshCall takeCall buffers) es → NoClash (inputs es)
@@ -25,4 +25,4 @@ pub same-debts : (buffers : Side → Bytes) → ((c : Side) → length (buffers 
     → h .position ≡ k .position → OweTheSame h k
 same-debts buffers empty es t nc c d h k i j e =
     let same : h .bytes ≡ k .bytes = (theorem buffers empty es t nc) .equalStates c d h k i j e in
-    record { bytes = ap owedPart same; pairs = λ m g. rw same (λ o. o, λ o. o) }
+    record { bytes = ap maskBytes same; pairs = λ m g. rw same (λ o. o, λ o. o) }

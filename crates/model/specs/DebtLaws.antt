@@ -205,8 +205,8 @@ pays-once s u _ _ (turn {v = v} {rs = rs} {ps = ps} {qs = qs} t w l h) = later-o
 -- ---- a record
 
 -- a record that changes nothing but the last number
-same-debts : (s : Run) (r : Record) → (step s r) .run ≡ withLast s (r .position) → LaidBy s r [] → ((m g : ℕ) → ¬ MissedBy s r m g) → DebtStep s r
-same-debts s r e l never =
+still-owes : (s : Run) (r : Record) → (step s r) .run ≡ withLast s (r .position) → LaidBy s r [] → ((m g : ℕ) → ¬ MissedBy s r m g) → DebtStep s r
+still-owes s r e l never =
     let same : (m g : ℕ) → Owes ((step s r) .run) m g ↔ Owes s m g = same-owes s ((step s r) .run) (ap (λ (u : Run). u .owed) e) in
     record { pairs = []; lays = l; were = each-nil _; once = tt; owes = λ m g. (λ o. (inl (same m g .0 o), λ i. List·Memᴰ·not-nil i), λ q. same m g .1 (or-left (λ x. absurd (never m g x)) (q .0))) }
 
@@ -259,7 +259,7 @@ step-debts s r f n four t = go (requestOf (r .mark) (r .body)) refl
     asked : (q : Request) → requestOf (r .mark) (r .body) ≡ some q → NoRow (rows s′ q) ⊎ ((n : ℕ) × FirstRow (rows s′ q) n) → DebtStep s r
     asked q e (inl k) = done-debts s r q e k fits (effect-fit s′ fits (omega arith) (λ w i. omega (arith, sound-fit s f .waiting .each w i .late)) q (request-possible (r .mark) (r .body) q t e) (no-row s′ q .1 k))
     asked q e (inr k) =
-        same-debts s r (ap (λ (u : Turn). u .run) (step-asks s r q e ∙ first-check s′ q (k .0) (k .1))) (is-refused q (k .0) e (k .1))
+        still-owes s r (ap (λ (u : Turn). u .run) (step-asks s r q e ∙ first-check s′ q (k .0) (k .1))) (is-refused q (k .0) e (k .1))
         (λ m g x. down g (k .0) (x .1) (subst (λ (y : Request). FirstRow (rows s′ y) (k .0)) (Option·some-injective q (crash g) (sym e ∙ x .0)) (k .1)))
       where
         down : (g n : ℕ) → IsUp s g → FirstRow (rows s′ (crash g)) n → ⊥
@@ -267,7 +267,7 @@ step-debts s r f n four t = go (requestOf (r .mark) (r .body)) refl
         down g n u (inr x) = x .1
 
     go : (o : Option Request) → requestOf (r .mark) (r .body) ≡ o → DebtStep s r
-    go none e = same-debts s r (ap (λ (u : Turn). u .run) (step-malformed s r e)) (is-malformed e) (λ m g x. Option·none-ne-some (crash g) (sym e ∙ x .0))
+    go none e = still-owes s r (ap (λ (u : Turn). u .run) (step-malformed s r e)) (is-malformed e) (λ m g x. Option·none-ne-some (crash g) (sym e ∙ x .0))
     go (some q) e = asked q e (check-cases s′ q)
 
 -- ---- recovery
