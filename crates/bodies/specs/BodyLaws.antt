@@ -18,9 +18,9 @@ use Rattle.model.specs.Statement.{Branch, Statement}
 use Rattle.model.specs.Legal.{legalBranch, legalStatement, parse, legalBody}
 use Rattle.model.specs.Reading.{several, wholeOf, branch}
 use Rattle.model.specs.ReadBack.{several-length}
-use Rattle.ends.specs.Ends.{endAt, endOf, end-of}
+use Rattle.statements.specs.Ends.{endAt, endOf, end-of}
 use Rattle.bodies.specs.Branching.{endsAt}
-use Rattle.ends.specs.BodyParts.{statementOf, statement-one, statement-short}
+use Rattle.walk.specs.BodyParts.{statementOf, statement-one, statement-short}
 
 -- more than 250 bytes
 pub body-long : (b : List ℕ) → mostBody < length b → false ≡ legalBody b

@@ -20,9 +20,9 @@ use Rattle.statements.specs.At.{which, found-some, found-none, position, suffix
 use Rattle.statements.specs.Operations.{suffix-operation}
 use Rattle.fields.specs.Kinds.{kindsAre}
 use Rattle.legality.specs.declared.Step.{Step}
-use Rattle.ends.specs.Ends.{endAt, endOf, end-of, position-none}
+use Rattle.statements.specs.Ends.{endAt, endOf, end-of, position-none}
 use Rattle.legality.specs.Steps.{placeOk, stepAt, bodyLegal, laterOf, step-later, step-none}
-use Rattle.ends.specs.Branches.{withBody, branch-one, branch-no, counted-one, counted-no}
+use Rattle.walk.specs.Branches.{withBody, branch-one, branch-no, counted-one, counted-no}
 use Rattle.legality.specs.Places.{stepIs}
 use Rattle.bodies.specs.BodyLaws.{tests}
 

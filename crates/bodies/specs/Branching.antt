@@ -12,8 +12,8 @@ use Rattle.basis.specs.Sizes.{branchesAt}
 use Rattle.model.specs.Legal.{legalBranch}
 use Rattle.model.specs.Reading.{several, branch}
 use Rattle.statements.specs.At.{position}
-use Rattle.ends.specs.Ends.{endAt, ends-turn, ends-done, position-some, position-none, end-within}
-use Rattle.ends.specs.Branches.{suffix-branch}
+use Rattle.statements.specs.Ends.{endAt, ends-turn, ends-done, position-some, position-none, end-within}
+use Rattle.walk.specs.Branches.{suffix-branch}
 
 -- a position is the end
 unfoldable pub endsAt : Option ℕ → ℕ → Bool

@@ -12,7 +12,7 @@ use Rattle.model.specs.Reading.{several, operation}
 use Rattle.statements.specs.At.{found-some, found-none, position}
 use Rattle.fields.specs.Kinds.{kindsAre}
 use Rattle.legality.specs.declared.Step.{Step}
-use Rattle.ends.specs.Ends.{endAt, ends-done, position-some, position-none}
+use Rattle.statements.specs.Ends.{endAt, ends-done, position-some, position-none}
 use Rattle.legality.specs.Steps.{stepAt, bodyLegal, body-turn, step-within}
 use Rattle.legality.specs.Places.{stepIs}
 

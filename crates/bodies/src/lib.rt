@@ -8,7 +8,7 @@ ghost use Rattle.model.specs.Reading.{several, operation, branch};
 ghost use Rattle.statements.specs.At.{position};
 ghost use Rattle.model.specs.Legal.{legalBranch, legalBody};
 ghost use Rattle.fields.specs.Kinds.{kindsAre};
-ghost use Rattle.ends.specs.Ends.{endAt};
+ghost use Rattle.statements.specs.Ends.{endAt};
 ghost use Rattle.bodies.specs.Branching.{endsAt};
 ghost use Rattle.bodies.specs.BodyLaws.{headOk};
 ghost use Rattle.legality.specs.Steps.{bodyLegal};

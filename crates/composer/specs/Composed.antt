@@ -25,13 +25,13 @@ use Rattle.model.specs.RoundTrip.{FitsOperation, FitsStatement}
 use Rattle.model.specs.ReadBack.{several-length, parse-parts}
 use Rattle.statements.specs.declared.Operation.{Operation}
 use Rattle.statements.specs.Flat.{operationIs}
-use Rattle.ends.specs.BodyParts.{body-parts}
+use Rattle.walk.specs.BodyParts.{body-parts}
 use Rattle.writer.specs.Writer.{begun, withOperation, withBranch, held}
 use Rattle.parts.specs.Puts.{Puts, puts-byte, puts-over, puts-then, puts-snoc, puts-length, puts-take}
 use Rattle.parts.specs.Operations.{PutOperation}
 use Rattle.composer.specs.Grown.{raised, raised-take, operation-bytes, branch-bytes, begun-bytes, fits-begun}
-use Rattle.ends.specs.Counts.{legal-some}
-use Rattle.ends.specs.LastCount.{LastCount}
+use Rattle.walk.specs.Counts.{legal-some}
+use Rattle.walk.specs.LastCount.{LastCount}
 use Rattle.writer.specs.HeldLaws.{Held, held-some, held-is}
 
 -- bytes are those of a statement that has room

@@ -17,7 +17,7 @@ use Rattle.model.specs.RoundTrip.{FitsOperation, FitsBranch, FitsStatement}
 use Rattle.writer.specs.Writer.{begun, inLast, withOperation, withBranch}
 use Rattle.writer.specs.WriterLaws.{in-last-length}
 use Rattle.parts.specs.Fields.{flatMap-one}
-use Rattle.ends.specs.Counts.{beforeCount, before-more, countAt}
+use Rattle.walk.specs.Counts.{beforeCount, before-more, countAt}
 
 -- ---- a byte raised by one
 

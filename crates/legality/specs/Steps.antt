@@ -15,8 +15,8 @@ use Rattle.statements.specs.At.{readAt, passed, readAt-some, suffix-at}
 use Rattle.statements.specs.Flat.{fewFields, operationAt}
 use Rattle.statements.specs.Operations.{suffix-operation}
 use Rattle.legality.specs.OperationLaws.{operationStep}
-use Rattle.ends.specs.Ends.{endAt, endOf, end-of, several-one, several-no, end-cons}
-use Rattle.ends.specs.LegalEnds.{legal-few}
+use Rattle.statements.specs.Ends.{endAt, endOf, end-of, several-one, several-no, end-cons}
+use Rattle.walk.specs.LegalEnds.{legal-few}
 
 -- where an operation may stand: as a guard, or in a body
 unfoldable pub placeOk : (guard : Bool) → Operation → Bool

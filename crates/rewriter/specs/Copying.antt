@@ -22,13 +22,13 @@ use Rattle.statements.specs.declared.OperationRead.{OperationRead}
 use Rattle.statements.specs.At.{found}
 use Rattle.statements.specs.BranchAt.{branch-at}
 use Rattle.statements.specs.Flat.{operationIs, readIs, Reads, fewFields, operationAt}
-use Rattle.ends.specs.BodyParts.{body-parts}
-use Rattle.ends.specs.Positions.{one-branch, one-operation, operation-at}
+use Rattle.walk.specs.BodyParts.{body-parts}
+use Rattle.walk.specs.Positions.{one-branch, one-operation, operation-at}
 use Rattle.writer.specs.declared.Added.{Added}
 use Rattle.writer.specs.Writer.{handed, begun, Written, writtenIs, isWritable, filledWith, beginOn, addOperation, addBranch}
 use Rattle.writer.specs.Tests.{parts-handed}
-use Rattle.ends.specs.Counts.{legal-some}
-use Rattle.ends.specs.LastCount.{bytes-below, body-some}
+use Rattle.walk.specs.Counts.{legal-some}
+use Rattle.walk.specs.LastCount.{bytes-below, body-some}
 use Rattle.rewriter.specs.Additions as addition
 use Rattle.rewriter.specs.Additions.{Addition, additions, handIn, grow, growAll}
 use Rattle.rewriter.specs.Fronts.{legal-each, branch-few, front, some-grow, grown-all}

@@ -14,12 +14,12 @@ use Rattle.model.specs.Statement.{Operation, Branch, operations, Statement}
 use Rattle.model.specs.Legal.{Kinds, noKinds, bindKinds, fieldsOf, legalOperation, legalOperations, isGuard, isBodyOperation, legalBranch, legalStatement}
 use Rattle.model.specs.Writing.{operationBytes, statementBytes}
 use Rattle.statements.specs.Flat.{fewFields}
-use Rattle.ends.specs.BranchEnds.{fewIn}
-use Rattle.ends.specs.LegalEnds.{legal-fewIn}
+use Rattle.walk.specs.BranchEnds.{fewIn}
+use Rattle.walk.specs.LegalEnds.{legal-fewIn}
 use Rattle.writer.specs.Writer.{begun, inLast, withOperation, withBranch, isWritable}
 use Rattle.writer.specs.WriterLaws.{in-last-length}
 use Rattle.composer.specs.Grown.{raised, operation-bytes, branch-bytes}
-use Rattle.ends.specs.Counts.{countAt}
+use Rattle.walk.specs.Counts.{countAt}
 use Rattle.rewriter.specs.Additions.{Addition, operation, branch, additions, grow, growAll}
 
 -- ---- legal

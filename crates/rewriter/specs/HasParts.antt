@@ -19,7 +19,7 @@ use Rattle.statements.specs.declared.Operation.{Operation}
 use Rattle.statements.specs.Flat.{codes, hasForm, fieldOf, fieldIs, fieldsAre, operationOf, operationIs, fewFields}
 use Rattle.writer.specs.Writer.{handed}
 use Rattle.writer.specs.Tests.{parts-handed}
-use Rattle.ends.specs.Counts.{legal-some}
+use Rattle.walk.specs.Counts.{legal-some}
 use Rattle.rewriter.specs.Additions.{Addition, operation, branch, additions, Parts, no-part, operation-part, branch-part}
 use Rattle.rewriter.specs.Fronts.{legal-each, branch-few}
 

@@ -1,8 +1,10 @@
 pub mod At
 pub mod BranchAt
+pub mod Ends
 pub mod Fields
 pub mod Fixed
 pub mod Flat
 pub mod FlatLaws
+pub mod Front
 pub mod Operations
 pub mod Several

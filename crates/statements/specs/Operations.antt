@@ -113,27 +113,18 @@ fields-many code from to b at c h m = rw (fields-from (operationOf code from to)
         let n : length (r .0) ≡ getD b at 0 = several-length field (getD b at 0) (drop (at + countWidth) b) (r .1) (r .0) q in
         rw (fields-of code from to (r .0) c, n, lt-leb (getD b at 0) mostFields m)
 
--- at most so many: they are what is read after the count
-pub fields-few : (code from to : ℕ) (b : List ℕ) (at : ℕ) (count : ℕ) (r : FieldsRead) → 0 < code → at < length b → count ≡ getD b at 0 → count ≤ mostFields
-    → fieldsRead count r ≡ readAt (several field count) b (at + countWidth)
-    → found (r .end) (operationOf code from to (fieldsAre (take count (r .fields)))) ≡ passed fewFields (readAt (fieldsMade (operationOf code from to)) b at)
-unfolding passed readAt fewFields provided fieldsRead found
-fields-few code from to b at count r c h e m k = rw (fields-from (operationOf code from to) b at h, ← e) (go (r .end) (several field count (drop (at + countWidth) b)) refl k)
+-- at most so many: they stand after the count
+pub fields-few : (code from to : ℕ) (b : List ℕ) (at : ℕ) → 0 < code → at < length b → getD b at 0 ≤ mostFields
+    → maybe (readAt (several field (getD b at 0)) b (at + countWidth)) none (λ r. some (operationOf code from to (r .0), r .1)) ≡ passed fewFields (readAt (fieldsMade (operationOf code from to)) b at)
+unfolding passed readAt fewFields provided
+fields-few code from to b at c h m = rw (fields-from (operationOf code from to) b at h) (go (several field (getD b at 0) (drop (at + countWidth) b)) refl)
   where
-    fs : List model.Field
-    fs = fieldsAre (take count (r .fields))
-
-    go : (end : ℕ) (o : Option (List model.Field × List ℕ)) → several field count (drop (at + countWidth) b) ≡ o → found end fs ≡ placed b o
-        → found end (operationOf code from to fs) ≡ passed fewFields (placed b (madeOf (operationOf code from to) o))
-    go zero none q k = refl
-    go zero (some x) q k = absurd (Option·none-ne-some (x .0, length b - length (x .1)) k)
-    go (suc end) none q k = absurd (Option·none-ne-some (fs, suc end) (sym k))
-    go (suc end) (some x) q k =
-        let same = Option·some-injective (fs, suc end) (x .0, length b - length (x .1)) k in
-        let f : fs ≡ x .0 = ap (λ (z : List model.Field × ℕ). z .0) same in
-        let n : suc end ≡ length b - length (x .1) = ap (λ (z : List model.Field × ℕ). z .1) same in
-        let l : length (x .0) ≡ count = several-length field count (drop (at + countWidth) b) (x .1) (x .0) q in
-        rw (fields-of code from to (x .0) c, l, le-leb count mostFields m) (λ i. some (operationOf code from to (f i), n i))
+    go : (o : Option (List model.Field × List ℕ)) → several field (getD b at 0) (drop (at + countWidth) b) ≡ o
+        → maybe {B = Option (model.Operation × ℕ)} (placed b o) none (λ r. some (operationOf code from to (r .0), r .1)) ≡ passed fewFields (placed b (madeOf (operationOf code from to) o))
+    go none q = refl
+    go (some x) q =
+        let l : length (x .0) ≡ getD b at 0 = several-length field (getD b at 0) (drop (at + countWidth) b) (x .1) (x .0) q in
+        rw (fields-of code from to (x .0) c, l, le-leb (getD b at 0) mostFields m)
 
 -- ---- the spaces of an operation
 

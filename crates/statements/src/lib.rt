@@ -1,15 +1,16 @@
 // Reading the operations of an AG record's body.
 ghost use mathlib.Core.Path.{_≡_};
-ghost use Prim.Native.Nat.{_+_, _≤_, _<_};
+ghost use Prim.Native.Nat.{ℕ, _+_, _≤_, _<_};
+ghost use mathlib.Core.List.{List};
 ghost use lib.ListN.{length, getD};
 ghost use mathlib.Core.Option.{none};
 ghost use Rattle.model.specs.Statement.{always};
 ghost use Rattle.basis.specs.Lists.{all};
 ghost use Rattle.basis.specs.Sizes.{spaceWidth, mostFields, spacesWidth};
 ghost use Rattle.model.specs.Reading.{field, several};
-ghost use Rattle.statements.specs.At.{readAt, passed};
-ghost use Rattle.statements.specs.Flat.{codes, hasForm, fieldIs, fieldRead, fieldsRead, operationOf, operationIs, Reads, fewFields, operationAt};
-ghost use Rattle.statements.specs.Operations.{fieldsMade, afterCode, namedWidth, secondSpace};
+ghost use Rattle.statements.specs.At.{readAt, passed, ended, position};
+ghost use Rattle.statements.specs.Flat.{codes, hasForm, fieldIs, fieldRead, fieldsRead, operationIs, Reads, fewFields, operationAt, Fronts, bareAt, bareIs};
+ghost use Rattle.statements.specs.Operations.{afterCode, namedWidth, secondSpace};
 ghost use Rattle.statements.specs.Fields.{widthOf, fieldParts, fieldEnd};
 ghost use lib.Dec.{T};
 use words::ACTUAL;
@@ -204,6 +205,23 @@ fn read_fields(b: &[u8], at: usize, count: usize) -> FieldsRead
     FieldsRead { end, fields }
 }
 
+// The position after so many fields from a position on; 0: there are not so many.
+fn fields_end(b: &[u8], at: usize, count: usize) -> usize
+    requires { ⌜ (0 < at) × (at ≤ length (now b)) ⌝ }
+    ensures { λ r. ⌜ position r ≡ ended (readAt (several field count) (now (b .entry)) at) ⌝ }
+{
+    let mut end = at;
+    let mut i: usize = 0;
+    while i < count {
+        end = field_end(b, end);
+        if end == 0 {
+            return 0;
+        }
+        i += 1;
+    }
+    end
+}
+
 // An operation with no part: true.
 fn no_operation() -> Operation
     ensures { λ r. ⌜ (operationIs r ≡ always) × (r .count ≡ 0) × (r .code ≡ 0) ⌝ }
@@ -225,29 +243,6 @@ fn no_operation_read() -> OperationRead
     OperationRead {
         end: 0,
         operation: no_operation(),
-    }
-}
-
-// An operation of a code and spaces whose field count stands at a position.
-fn read_counted(b: &[u8], at: usize, code: u8, from: u16, to: u16) -> OperationRead
-    requires { ⌜ (0 < code) × (at < length (now b)) × (code < codes) ⌝ }
-    ensures { λ r. ⌜ Reads r (passed fewFields (readAt (fieldsMade (operationOf code from to)) (now (b .entry)) at)) ⌝ }
-{
-    let count = size(b[at]);
-    if MOST_FIELDS < count {
-        return no_operation_read();
-    }
-    let r = read_fields(b, at + COUNT_WIDTH, count);
-    let fields = r.fields;
-    OperationRead {
-        end: r.end,
-        operation: Operation {
-            code,
-            from,
-            to,
-            count,
-            fields,
-        },
     }
 }
 
@@ -273,37 +268,122 @@ fn second_space(b: &[u8], at: usize, code: u8) -> u16
     space_number(b, at + SPACE_WIDTH)
 }
 
-// Codes 1 to 7, after the code: space, or from and to; then field count and fields. One call reads the fields for all codes: what is
-// read is then put together in one place, and not copied from place to place.
-fn read_on_spaces(b: &[u8], at: usize, code: u8) -> OperationRead
+// What stands before the fields of an operation: its code, its spaces, their count, and the position of the first; 0: there is no such operation.
+struct Front {
+    pub at: usize,
+    pub code: u8,
+    pub from: u16,
+    pub to: u16,
+    pub count: usize,
+}
+
+// That there is no operation.
+fn no_front() -> Front
+    ensures { λ r. ⌜ ((b : List ℕ) → Fronts r b none) ⌝ }
+{
+    Front {
+        at: 0,
+        code: TRUE,
+        from: 0,
+        to: 0,
+        count: 0,
+    }
+}
+
+// Codes 1 to 7, after the code: space, or from and to; then the field count.
+fn front_on_spaces(b: &[u8], at: usize, code: u8) -> Front
     requires { ⌜ (0 < code) × (at ≤ length (now b)) × (code < codes) ⌝ }
-    ensures { λ r. ⌜ Reads r (passed fewFields (readAt (afterCode code) (now (b .entry)) at)) ⌝ }
+    ensures { λ r. ⌜ Fronts r (now (b .entry)) (passed fewFields (readAt (afterCode code) (now (b .entry)) at)) ⌝ }
 {
     let width = spaces_width(code);
     if b.len() - at < width + COUNT_WIDTH {
-        return no_operation_read();
+        return no_front();
     }
-    let from = space_number(b, at);
-    let to = second_space(b, at, code);
-    read_counted(b, at + width, code, from, to)
+    let count = size(b[at + width]);
+    if MOST_FIELDS < count {
+        return no_front();
+    }
+    let first = space_number(b, at);
+    let second = second_space(b, at, code);
+    Front {
+        at: at + width + COUNT_WIDTH,
+        code,
+        from: first,
+        to: second,
+        count,
+    }
 }
 
-// The operation at a position: code 0, true, has no more bytes; 1 to 5 name a space, 6 and 7 two.
-pub fn read_operation(b: &[u8], at: usize) -> OperationRead
-    ensures { λ r. ⌜ Reads r (operationAt (now (b .entry)) at) ⌝ }
+// The front of the operation at a position: code 0, true, has no more bytes; 1 to 5 name a space, 6 and 7 two.
+fn read_front(b: &[u8], at: usize) -> Front
+    ensures { λ r. ⌜ Fronts r (now (b .entry)) (operationAt (now (b .entry)) at) ⌝ }
 {
     if b.len() <= at {
-        return no_operation_read();
+        return no_front();
     }
     let code = b[at];
     if code == TRUE {
-        return OperationRead {
-            end: at + CODE_WIDTH,
-            operation: no_operation(),
+        return Front {
+            at: at + CODE_WIDTH,
+            code,
+            from: 0,
+            to: 0,
+            count: 0,
         };
     }
     if code < CODES {
-        return read_on_spaces(b, at + CODE_WIDTH, code);
+        return front_on_spaces(b, at + CODE_WIDTH, code);
     }
-    no_operation_read()
+    no_front()
+}
+
+// The operation at a position, with its fields.
+pub fn read_operation(b: &[u8], at: usize) -> OperationRead
+    ensures { λ r. ⌜ Reads r (operationAt (now (b .entry)) at) ⌝ }
+{
+    let f = read_front(b, at);
+    if f.at == 0 {
+        return no_operation_read();
+    }
+    let r = read_fields(b, f.at, f.count);
+    let fields = r.fields;
+    OperationRead {
+        end: r.end,
+        operation: Operation {
+            code: f.code,
+            from: f.from,
+            to: f.to,
+            count: f.count,
+            fields,
+        },
+    }
+}
+
+// An operation without its fields: its code and spaces, and the position after it; 0: there is none.
+pub struct Bare {
+    pub end: usize,
+    pub code: u8,
+    pub from: u16,
+    pub to: u16,
+}
+
+// The operation at a position, its end found from field to field, and no field read.
+pub fn pass_operation(b: &[u8], at: usize) -> Bare
+    ensures { λ r. ⌜ bareIs r ≡ bareAt (operationAt (now (b .entry)) at) ⌝ }
+{
+    let f = read_front(b, at);
+    if f.at == 0 {
+        return Bare {
+            end: 0,
+            code: f.code,
+            from: f.from,
+            to: f.to,
+        };
+    }
+    Bare {
+        end: fields_end(b, f.at, f.count),
+        code: f.code,
+        from: f.from,
+        to: f.to,
+    }
 }

@@ -5,7 +5,7 @@ use lib.ListN.{length-set}
 use borrow.Author.Needs.{needs}
 use Rattle.basis.specs.Sizes.{branchCountAt}
 use Rattle.composer.specs.Grown.{raised}
-use Rattle.ends.specs.LastCount.{bytes-below}
+use Rattle.walk.specs.LastCount.{bytes-below}
 use Rattle.composer.specs.Composed.{held-bytes, copied-at, composed-branch}
 use Rattle.composer.proofs.compose_branch.Statement.{statement}
 use Rattle.composer.proofs.compose_branch.Tie as tie

@@ -5,7 +5,7 @@ use denote.Ref.{now}
 use lib.ListN.{length-set}
 use lib.Seq.{length-take-le}
 use Rattle.composer.specs.Grown.{raised}
-use Rattle.ends.specs.LastCount.{bytes-below}
+use Rattle.walk.specs.LastCount.{bytes-below}
 use Rattle.composer.specs.Composed.{held-bytes, copied-at, composed-operation}
 use Rattle.writer.specs.HeldLaws.{body-held}
 use Rattle.composer.proofs.compose_operation.Statement.{statement}

@@ -2,7 +2,8 @@ pub mod BodyParts
 pub mod BranchEnds
 pub mod Branches
 pub mod Counts
-pub mod Ends
 pub mod LastCount
 pub mod LegalEnds
 pub mod Positions
+pub mod Standing
+pub mod Walk

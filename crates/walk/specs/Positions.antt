@@ -14,7 +14,7 @@ use Rattle.model.specs.ReadBack.{then-some}
 use Rattle.statements.specs.At.{Suffix, suffix-at, passed, some-readAt}
 use Rattle.statements.specs.Flat.{fewFields, operationAt}
 use Rattle.statements.specs.Operations.{suffix-operation}
-use Rattle.ends.specs.Branches.{suffix-branch}
+use Rattle.walk.specs.Branches.{suffix-branch}
 
 -- one thing of several stands at a position, the others after it
 pub record OneAt {A : Type 0} (p : Reader A) (m : ℕ) (b : List ℕ) (at : ℕ) (a : A) (l : List A) (rest : List ℕ) : Type 0 where

@@ -1,4 +1,4 @@
--- `ends::last_count` meets its contract. Assumes nothing.
+-- `walk::last_count` meets its contract. Assumes nothing.
 use mathlib.Core.Path.{_≡_}
 use mathlib.Core.Option.{some}
 use Prim.Native.Nat.{_-_}
@@ -8,9 +8,9 @@ use borrow.Author.Needs.{needs}
 use Rattle.basis.specs.NumberLaws.{bytes-of}
 use Rattle.model.specs.Statement.{Statement}
 use Rattle.model.specs.Legal.{parse}
-use Rattle.ends.specs.LastCount.{Reached, body-long, reached-start, reached-turn, reached-last}
-use Rattle.ends.proofs.last_count.Statement.{statement}
-use Rattle.ends.proofs.last_count.Tie as tie
+use Rattle.walk.specs.LastCount.{Reached, body-long, reached-start, reached-turn, reached-last}
+use Rattle.walk.proofs.last_count.Statement.{statement}
+use Rattle.walk.proofs.last_count.Tie as tie
 
 abbrev Inv-loop : tie.InvT-loop
 Inv-loop b count at₀ i₀ at i = (st : Statement) → parse b ≡ some st → Reached b count st at i
@@ -43,15 +43,15 @@ loop-again c st e =
     let s = n .before .before .before in
     reached-turn (now (s .args .b)) (n .size .result) st (l .loop .at) (l .loop .i) (c .branch-end .result) (bytes-of (now (s .args .b)) (λ k. n .before .before .shared-slice-known .given k .fits)) (c .before .loop-test .taken) (l .loop .inv st e) (c .branch-end .ensures)
 
-read-operation-requires : tie.Need-read-operation-requires Inv-loop μ-loop
-read-operation-requires c κs = search needs
+pass-operation-requires : tie.Need-pass-operation-requires Inv-loop μ-loop
+pass-operation-requires c κs = search needs
 
 returns : tie.Need-returns Inv-loop μ-loop
 returns c =
     let l = c .before .before in
     let n = l .before in
     let s = n .before .before .before in
-    reached-last (now (s .args .b)) (n .size .result) (l .loop .at) (l .loop .i) (c .read-operation .result) (bytes-of (now (s .args .b)) (λ k. n .before .before .shared-slice-known .given k .fits)) (s .pre) (c .before .loop-test .left) (l .loop .inv) (c .read-operation .ensures .is)
+    reached-last (now (s .args .b)) (n .size .result) (l .loop .at) (l .loop .i) (c .pass-operation .result) (bytes-of (now (s .args .b)) (λ k. n .before .before .shared-slice-known .given k .fits)) (s .pre) (c .before .loop-test .left) (l .loop .inv) (c .pass-operation .ensures)
 
 pub last-count-spec : {M : Type 1} → statement M
 last-count-spec =
@@ -66,5 +66,5 @@ last-count-spec =
     add-i
     loop-less
     loop-again
-    read-operation-requires
+    pass-operation-requires
     returns)

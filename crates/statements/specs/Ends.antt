@@ -1,6 +1,6 @@
 -- The position after what is read and passes a test: of one thing, and of several. Assumes nothing.
 use mathlib.Core.Path.{_≡_, refl, sym, ap, _∙_}
-use Prim.Native.Nat.{ℕ, zero, suc, _-_, _≤_, _<_}
+use Prim.Native.Nat.{ℕ, zero, suc, _+_, _-_, _≤_, _<_}
 use native.Mathlib.Omega.{arith}
 use mathlib.Core.Bool.{Bool, true, false, _&&_, cond}
 use mathlib.Core.Option.{Option, none, some, Option·some-injective, Option·none-ne-some}
@@ -90,7 +90,7 @@ unfolding position
 position-none zero h = refl
 position-none (suc end) h = absurd (omega arith)
 
--- the position after a branch is within the bytes
+-- such a position is within the bytes
 pub end-within : {A : Type 0} (p : Reader A) (ok : A → Bool) (b : List ℕ) (at end : ℕ) → endAt p ok b at ≡ some end → end ≤ length b
 unfolding provided
 end-within {A} p ok b at end e = go (p (drop at b)) (sym (end-of p ok b at) ∙ e)
@@ -102,3 +102,32 @@ end-within {A} p ok b at end e = go (p (drop at b)) (sym (end-of p ok b at) ∙ 
     go : (o : Option (A × List ℕ)) → endOf ok b o ≡ some end → end ≤ length b
     go none q = absurd (Option·none-ne-some end q)
     go (some r) q = omega (arith, test (ok (r .0)) (length b - length (r .1)) q)
+
+-- ---- several things, in a loop
+
+-- i of so many things that each pass a test were passed, up to a position, and the rest decides
+pub record Passing {A : Type 0} (p : Reader A) (ok : A → Bool) (b : List ℕ) (at count end i : ℕ) : Type 0 where
+  pub few : i ≤ count
+  pub past : 0 < end
+  pub within : end ≤ length b
+  pub rest : endAt (several p count) (all ok) b at ≡ endAt (several p (count - i)) (all ok) b end
+
+pub passing-start : {A : Type 0} (p : Reader A) (ok : A → Bool) (b : List ℕ) (at count : ℕ) → 0 < at → at ≤ length b → Passing p ok b at count at 0
+passing-start p ok b at count h l = let e : count - 0 ≡ count = omega arith in record { few = omega arith; past = h; within = l; rest = rw e }
+
+module _ {A : Type 0} (p : Reader A) (sf : Suffix p) (ok : A → Bool) (b : List ℕ) (at count end i : ℕ) (w : Passing p ok b at count end i) where
+  -- the next one decides, and those after it
+  passing-next : i < count → endAt (several p count) (all ok) b at ≡ maybe (endAt p ok b end) none (λ next. endAt (several p (count - (i + 1))) (all ok) b next)
+  passing-next h = let m : count - i ≡ suc (count - (i + 1)) = omega arith in w .rest ∙ rw m (ends-turn p sf ok (count - (i + 1)) b end)
+
+  pub passing-turn : (next : ℕ) → i < count → position next ≡ endAt p ok b end → (next ≡ 0 → ⊥) → Passing p ok b at count next (i + 1)
+  passing-turn next h e n =
+      let s : endAt p ok b end ≡ some next = sym e ∙ position-some next (omega (arith, n)) in
+      record { few = omega arith; past = omega (arith, n); within = end-within p ok b end next s; rest = passing-next h ∙ rw s }
+
+  pub passing-stop : (next : ℕ) → i < count → position next ≡ endAt p ok b end → next ≡ 0 → endAt (several p count) (all ok) b at ≡ none
+  passing-stop next h e n = let s : endAt p ok b end ≡ none = sym e ∙ position-none next n in passing-next h ∙ rw s
+
+  pub passing-done : count ≤ i → endAt (several p count) (all ok) b at ≡ some end
+  unfolding all
+  passing-done h = let z : count - i ≡ 0 = omega arith in w .rest ∙ rw z (ends-done p (all ok) b end refl (w .within))

@@ -6,31 +6,29 @@ ghost use Rattle.basis.specs.Lists.{all};
 ghost use Rattle.model.specs.Reading.{several, operation, branch};
 ghost use Rattle.statements.specs.At.{position};
 ghost use Rattle.statements.specs.Flat.{fewFields};
-ghost use Rattle.ends.specs.Ends.{endAt};
-ghost use Rattle.ends.specs.BranchEnds.{fewIn};
+ghost use Rattle.statements.specs.Ends.{endAt};
+ghost use Rattle.walk.specs.BranchEnds.{fewIn};
 ghost use mathlib.Core.Bool.{true};
 ghost use Rattle.model.specs.Legal.{legalBody};
-ghost use Rattle.ends.specs.LastCount.{LastCount};
-use statements::read_operation;
+ghost use Rattle.walk.specs.LastCount.{LastCount};
+use statements::pass_operation;
 use words::BRANCH_COUNT_AT;
 use words::BRANCHES_AT;
 use words::COUNT_WIDTH;
 use words::size;
 
 // The position after so many operations from a position on; 0: there are not so many.
-fn operations_end(b: &[u8], at: usize, count: usize) -> usize
+pub fn operations_end(b: &[u8], at: usize, count: usize) -> usize
     requires { ⌜ (0 < at) × (at ≤ length (now b)) ⌝ }
     ensures { λ r. ⌜ position r ≡ endAt (several operation count) (all fewFields) (now (b .entry)) at ⌝ }
 {
     let mut end = at;
     let mut i: usize = 0;
     while i < count {
-        let r = read_operation(b, end);
-        let next = r.end;
-        if next == 0 {
+        end = pass_operation(b, end).end;
+        if end == 0 {
             return 0;
         }
-        end = next;
         i += 1;
     }
     end
@@ -40,8 +38,7 @@ fn operations_end(b: &[u8], at: usize, count: usize) -> usize
 pub fn branch_end(b: &[u8], at: usize) -> usize
     ensures { λ r. ⌜ position r ≡ endAt branch fewIn (now (b .entry)) at ⌝ }
 {
-    let g = read_operation(b, at);
-    let end = g.end;
+    let end = pass_operation(b, at).end;
     if end == 0 {
         return 0;
     }
@@ -63,6 +60,5 @@ pub fn last_count(b: &[u8]) -> usize
         at = branch_end(b, at);
         i += 1;
     }
-    let g = read_operation(b, at);
-    g.end
+    pass_operation(b, at).end
 }

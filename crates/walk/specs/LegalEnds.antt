@@ -15,8 +15,8 @@ use Rattle.model.specs.Statement.{Operation, always, lookup, deposit, transfer,
 use Rattle.model.specs.Legal.{Kinds, noKinds, bindKinds, legalFields, fieldsOf, fieldCount, isSpace, legalOperation, legalOperations, legalBranch}
 use Rattle.model.specs.Reading.{branch}
 use Rattle.statements.specs.Flat.{fewFields}
-use Rattle.ends.specs.Ends.{endAt, end-of}
-use Rattle.ends.specs.BranchEnds.{fewIn}
+use Rattle.statements.specs.Ends.{endAt, end-of}
+use Rattle.walk.specs.BranchEnds.{fewIn}
 
 -- a legal operation has few fields
 pub legal-few : (ks : Kinds) (o : Operation) → legalOperation ks o ≡ true → fewFields o ≡ true
