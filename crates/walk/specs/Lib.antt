@@ -1,6 +1,7 @@
 pub mod BodyParts
 pub mod BranchEnds
 pub mod Branches
+pub mod Choosing
 pub mod Counts
 pub mod LastCount
 pub mod LegalEnds

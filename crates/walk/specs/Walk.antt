@@ -6,11 +6,11 @@ use mathlib.Core.Bool.{true}
 use mathlib.Core.Option.{Option, none, some, Option·some-injective, Option·none-ne-some}
 use mathlib.Core.List.{List, [], _∷_}
 use lib.ListN.{length, drop, getD, length-drop}
-use lib.Dec.{T}
+use lib.Dec.{T, ltb→lt}
 use Rattle.basis.specs.Choice.{provided}
 use Rattle.basis.specs.Logic.{and-l, and-r, is-true}
 use Rattle.basis.specs.Lists.{all}
-use Rattle.basis.specs.Sizes.{countWidth, branchCountAt, branchesAt}
+use Rattle.basis.specs.Sizes.{hosts, hostAt, countWidth, branchCountAt, branchesAt}
 use Rattle.model.specs.Statement.{Operation, Branch, operations, Statement}
 use Rattle.model.specs.Legal.{legalBranch, legalStatement, legalBody}
 use Rattle.model.specs.Reading.{several, operation, branch}
@@ -208,3 +208,10 @@ body-is b t = body-parts b (statementOf b) (legal-parse b t)
 pub body-branches : (b : List ℕ) (st : Statement) → BodyParts b st → StandAs branch legalBranch b branchesAt (getD b branchCountAt 0) (st .branches) []
 unfolding legalStatement
 body-branches b st h = stand-as branch legalBranch b branchesAt (getD b branchCountAt 0) (st .branches) [] (h .branches) (let t : T (legalStatement st) = h .legal in search (and-l, and-r, t) depth 16)
+
+pub body-host-small : (b : List ℕ) → T (legalBody b) → getD b hostAt 0 < hosts
+unfolding legalStatement
+body-host-small b t =
+    let h = body-is b t in
+    let l : T (legalStatement (statementOf b)) = h .legal in
+    omega (arith, h .host, ltb→lt ((statementOf b) .host) hosts (search (and-l, and-r, l) depth 16))

@@ -17,6 +17,13 @@ use words::BRANCHES_AT;
 use words::COUNT_WIDTH;
 use words::size;
 
+// A branch that was chosen, counted from 1, the position of its guard, and the index of the tuple that the guard finds; branch 0: none.
+pub struct Choice {
+    pub branch: u8,
+    pub at: usize,
+    pub tuple: usize,
+}
+
 // The position after so many operations from a position on; 0: there are not so many.
 pub fn operations_end(b: &[u8], at: usize, count: usize) -> usize
     requires { ⌜ (0 < at) × (at ≤ length (now b)) ⌝ }
