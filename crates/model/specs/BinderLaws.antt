@@ -4,13 +4,15 @@ use Prim.Native.Nat.{ℕ}
 use mathlib.Core.Bool.{true, not}
 use mathlib.Core.Option.{Option, none, some, Option·some-injective, Option·none-ne-some}
 use mathlib.Core.List.{List}
+use lib.ListN.{set}
 use lib.Dec.{T, T-not}
 use Rattle.basis.specs.Choice.{maybe}
 use Rattle.basis.specs.Logic.{and-l, and-r}
 use Rattle.basis.specs.Lists.{isIn}
+use Rattle.model.specs.Value.{Value}
 use Rattle.model.specs.Statement.{Field, actual, formal, reference, sum, difference, anonymous, Binder, binderOf}
-use Rattle.model.specs.Legal.{Kinds, formOf, legalParts, legalBinder, legalField}
-use Rattle.model.specs.Matching.{Bindings, templateField}
+use Rattle.model.specs.Legal.{Kinds, formOf, legalBinder, legalParts, legalField, bindKind}
+use Rattle.model.specs.Matching.{Bindings, templateField, bindField}
 use Rattle.model.specs.CheckLaws.{Some}
 
 -- "Form 1, kind, variable (0 to 15): binds"; no other form does
@@ -51,6 +53,24 @@ binds-none allowed f barred t = go (binderOf f) refl
     go : (o : Option Binder) → binderOf f ≡ o → binderOf f ≡ none
     go none q = q
     go (some b) q = absurd (T-not (isIn 1 allowed) barred (barred-form b q))
+
+-- ---- binding: a field that binds nothing leaves all variables, one that binds sets its own
+
+pub kinds-left : (ks : Kinds) (f : Field) → binderOf f ≡ none → bindKind ks f ≡ ks
+unfolding bindKind
+kinds-left ks f e = rw e
+
+pub kinds-set : (ks : Kinds) (f : Field) (b : Binder) → binderOf f ≡ some b → bindKind ks f ≡ set ks (b .variable) (some (b .kind))
+unfolding bindKind
+kinds-set ks f b e = rw e
+
+pub values-left : (bs : Bindings) (f : Field) (v : Value) → binderOf f ≡ none → bindField bs f v ≡ bs
+unfolding bindField
+values-left bs f v e = rw e
+
+pub values-set : (bs : Bindings) (f : Field) (v : Value) (b : Binder) → binderOf f ≡ some b → bindField bs f v ≡ set bs (b .variable) (some v)
+unfolding bindField
+values-set bs f v b e = rw e
 
 -- ---- a legal field
 

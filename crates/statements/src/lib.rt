@@ -3,12 +3,14 @@ ghost use mathlib.Core.Path.{_≡_};
 ghost use Prim.Native.Nat.{_+_, _≤_, _<_};
 ghost use lib.ListN.{length, getD};
 ghost use mathlib.Core.Option.{none};
-ghost use Rattle.model.specs.Statement.{always};
+ghost use Rattle.model.specs.Statement.{binderOf, always};
+ghost use Rattle.basis.specs.Choice.{provided};
 ghost use Rattle.basis.specs.Lists.{all};
 ghost use Rattle.basis.specs.Sizes.{spaceWidth, mostFields, spacesWidth};
 ghost use Rattle.model.specs.Reading.{field, several};
 ghost use Rattle.statements.specs.At.{readAt, passed};
 ghost use Rattle.statements.specs.Flat.{codes, hasForm, fieldIs, fieldRead, fieldsRead, operationOf, operationIs, Reads, fewFields, operationAt};
+ghost use Rattle.statements.specs.Binds.{binderIn};
 ghost use Rattle.statements.specs.Operations.{fieldsMade, afterCode, namedWidth, secondSpace};
 ghost use Rattle.statements.specs.Fields.{widthOf, fieldParts, fieldEnd};
 ghost use lib.Dec.{T};
@@ -49,6 +51,13 @@ pub struct Field {
     pub kind: u8,
     pub variable: u8,
     pub bits: u32,
+}
+
+// Whether a field binds: its variable, at its kind.
+pub fn binds(f: Field) -> bool
+    ensures { λ r. ⌜ provided r (binderIn f) ≡ binderOf (fieldIs f) ⌝ }
+{
+    f.form == 1
 }
 
 // A field that was read, and the position after it; 0: there is none.
