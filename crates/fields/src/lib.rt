@@ -66,7 +66,7 @@ fn binder_ok(kind: u8, variable: u8, now: [u8; VARIABLES]) -> bool
     kind_at(now, variable) == 0
 }
 
-// The other parts of a field, by its form: `earlier` has the kinds that earlier operations bound.
+// What a form asks of a field's other parts.
 fn parts_ok(f: Field, earlier: [u8; VARIABLES]) -> bool
     ensures { λ r. ⌜ r ≡ legalParts (kindsAre earlier) (fieldIs f) ⌝ }
 {
@@ -80,7 +80,7 @@ fn parts_ok(f: Field, earlier: [u8; VARIABLES]) -> bool
     }
 }
 
-// A field after others: `now` has the kinds bound so far.
+// A field after others: `earlier` has the kinds that earlier operations bound, `now` those bound so far.
 fn field_ok(f: Field, earlier: [u8; VARIABLES], now: [u8; VARIABLES]) -> bool
     ensures { λ r. ⌜ r ≡ legalField (kindsAre earlier) (kindsAre now) (fieldIs f) ⌝ }
 {
