@@ -1,6 +1,6 @@
 -- What a template binds at a tuple's values, field by field. Assumes nothing.
-use mathlib.Core.Path.{_≡_, refl, sym, _∙_}
-use Prim.Native.Nat.{ℕ, zero, suc, _+_, _≤_, _<_}
+use mathlib.Core.Path.{_≡_, sym, _∙_}
+use Prim.Native.Nat.{ℕ, _+_, _≤_, _<_}
 use native.Mathlib.Omega.{arith}
 use mathlib.Core.Bool.{true}
 use mathlib.Core.Option.{some}
@@ -10,9 +10,12 @@ use lib.Seq.{set-out}
 use Rattle.basis.specs.Sizes.{variables, mostFields}
 use Rattle.model.specs.Value.{Value, value}
 use Rattle.model.specs.Statement as Model
+use Rattle.model.specs.Statement.{binderOf}
 use Rattle.model.specs.Matching.{Bindings, bindField, bind}
+use Rattle.model.specs.BinderLaws.{values-set}
 use Rattle.statements.specs.declared.Field.{Field}
-use Rattle.statements.specs.Flat.{fieldOf, fieldIs, fieldsAre}
+use Rattle.statements.specs.Flat.{fieldIs, fieldsAre}
+use Rattle.statements.specs.Binds.{binderIn}
 use Rattle.tuples.specs.Section.{tupleAt}
 use Rattle.tuples.specs.Entry.{valueAt, valueIn, valuesFrom}
 use Rattle.tuples.specs.PlaceLaws.{values-of, from-first, from-next}
@@ -23,32 +26,17 @@ use Rattle.bindings.specs.Variables.{bindings, bindingsOf, bindings-set,
 -- ---- one field
 
 module _ (v : Vars) (f : Field) (u : Value) where
-  -- form 1
-  pub binds : (y : ℕ) → f .form ≡ 1 → y ≡ f .variable
+  -- it binds
+  pub binds : (y : ℕ) → binderOf (fieldIs f) ≡ some (binderIn f) → y ≡ f .variable
       → bindings (set (v .bound) y true) (set (v .kinds) y (u .kind)) (set (v .bits) y (u .bits)) ≡ bindField (bindingsOf v) (fieldIs f) u
-  unfolding fieldIs fieldOf bindField
-  binds y e q = rw (e, ← q) (bindings-set (v .bound) (v .kinds) (v .bits) y (u .kind) (u .bits))
+  binds y e q = rw (values-set (bindingsOf v) (fieldIs f) u (binderIn f) e, ← q) (bindings-set (v .bound) (v .kinds) (v .bits) y (u .kind) (u .bits))
 
   -- no such variable
-  pub binds-past : (y : ℕ) → Sixteen v → f .form ≡ 1 → y ≡ f .variable → variables ≤ y → bindingsOf v ≡ bindField (bindingsOf v) (fieldIs f) u
-  unfolding fieldIs fieldOf bindField
+  pub binds-past : (y : ℕ) → Sixteen v → binderOf (fieldIs f) ≡ some (binderIn f) → y ≡ f .variable → variables ≤ y → bindingsOf v ≡ bindField (bindingsOf v) (fieldIs f) u
   binds-past y n e q h =
       let l : length (bindingsOf v) ≡ variables = bindings-length (v .bound) (v .kinds) (v .bits) (n .0 ∙ sym (n .1)) (n .0 ∙ sym (n .2)) ∙ n .0 in
       let past : length (bindingsOf v) ≤ y = omega arith in
-      rw (e, ← q) (sym (set-out (bindingsOf v) y (some u) past))
-
-  -- the other forms
-  pub binds-not : (f .form ≡ 1 → ⊥) → bindingsOf v ≡ bindField (bindingsOf v) (fieldIs f) u
-  unfolding fieldIs fieldOf bindField
-  binds-not a = go (f .form) refl a
-    where
-      go : (n : ℕ) → f .form ≡ n → (n ≡ 1 → ⊥) → bindingsOf v ≡ bindField (bindingsOf v) (fieldIs f) u
-      go zero e a = rw e
-      go (suc zero) e a = absurd (a refl)
-      go (suc (suc zero)) e a = rw e
-      go (suc (suc (suc zero))) e a = rw e
-      go (suc (suc (suc (suc zero)))) e a = rw e
-      go (suc (suc (suc (suc (suc n))))) e a = rw e
+      rw (values-set (bindingsOf v) (fieldIs f) u (binderIn f) e, ← q) (sym (set-out (bindingsOf v) y (some u) past))
 
 -- ---- all of them
 

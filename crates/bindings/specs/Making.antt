@@ -1,5 +1,6 @@
 -- The tuple that an out makes: its values, and its bytes one value after the other. Assumes nothing.
 use mathlib.Core.Path.{_≡_, refl, sym, ap, subst, _∙_}
+use mathlib.Core.Logic.{_⊎_, inl, inr}
 use Prim.Native.Nat.{ℕ, zero, suc, _+_, _<_}
 use mathlib.Core.Bool.{Bool, true, false}
 use mathlib.Core.Option.{Option, none, some, Option·map}
@@ -10,7 +11,7 @@ use Rattle.basis.specs.Choice.{maybe, provided}
 use Rattle.basis.specs.Sizes.{mostFields}
 use Rattle.model.specs.Value.{Value, value, legalValue}
 use Rattle.model.specs.Statement as Model
-use Rattle.model.specs.Statement.{actual, formal, reference, sum, difference, anonymous}
+use Rattle.model.specs.Statement.{sum, difference}
 use Rattle.model.specs.Matching.{Tuple, Bindings, valueOf}
 use Rattle.model.specs.Execution.{made, madeAll}
 use Rattle.sums.specs.Meaning.{sumOf}
@@ -30,13 +31,9 @@ givenIs k g n = provided g (value k n)
 abbrev pub Summable : Bindings → ℕ → Value → Type 0
 Summable bs x v = T (legalValue (value (v .kind) ((valueOf bs x) .bits))) × T (legalValue v)
 
-abbrev pub CanMake : Bindings → Model.Field → Type 0
-CanMake bs (actual v) = Unit {0}
-CanMake bs (formal k x) = Unit {0}
-CanMake bs (reference x) = Unit {0}
-CanMake bs (sum x v) = Summable bs x v
-CanMake bs (difference x v) = Summable bs x v
-CanMake bs (anonymous k) = Unit {0}
+-- what a field's value needs: of the forms 3 and 4 that the sum can be had
+pub record CanMake (bs : Bindings) (f : Model.Field) : Type 0 where
+  pub summed : (x : ℕ) (v : Value) → (f ≡ sum x v) ⊎ (f ≡ difference x v) → Summable bs x v
 
 -- with the bits that the variable holds
 module _ (bs : Bindings) (x : ℕ) (v : Value) (k n : ℕ) (held : value k n ≡ valueOf bs x) where
@@ -84,11 +81,11 @@ module _ (bs : Bindings) (f : Field) where
   -- what the forms 3 and 4 ask for
   pub can-sum : f .form ≡ 3 → CanMake bs (fieldIs f) → Summable bs (f .variable) (value (f .kind) (f .bits))
   unfolding fieldIs fieldOf
-  can-sum e h = rw e at h
+  can-sum e h = h .summed (f .variable) (value (f .kind) (f .bits)) (inl (rw e))
 
   pub can-difference : f .form ≡ 4 → CanMake bs (fieldIs f) → Summable bs (f .variable) (value (f .kind) (f .bits))
   unfolding fieldIs fieldOf
-  can-difference e h = rw e at h
+  can-difference e h = h .summed (f .variable) (value (f .kind) (f .bits)) (inr (rw e))
 
 -- ---- the bytes
 

@@ -121,7 +121,7 @@ fn bind_field(v: Vars, f: Field, kind: u8, bits: u32) -> Vars
 {
     let mut w = v;
     let x = words::size(f.variable);
-    if f.form == 1 {
+    if statements::binds(f) {
         if x < words::VARIABLES {
             w.bound[x] = true;
             w.kinds[x] = kind;

@@ -1,5 +1,6 @@
 -- What an operation needs, a legal one has; and it leaves the variables legal. Assumes nothing.
 use mathlib.Core.Path.{_≡_}
+use mathlib.Core.Logic.{_⊎_, inl, inr}
 use Prim.Native.Nat.{ℕ, _+_, _≤_}
 use native.Mathlib.Omega.{arith}
 use mathlib.Core.Bool.{Bool, true, false}
@@ -12,10 +13,12 @@ use Rattle.basis.specs.Logic.{and-l, and-r}
 use Rattle.basis.specs.Lists.{any, isIn, first}
 use Rattle.basis.specs.ListLaws.{Each, each-nil, each-cons, first-some, first-member}
 use Rattle.basis.specs.Sizes.{spaceNumbers, mostFields, mostTuples}
-use Rattle.model.specs.Statement.{Field, actual, formal, reference, sum, difference, anonymous, Operation, always, lookup, deposit, transfer}
-use Rattle.model.specs.Legal.{Kinds, kindIn, legalField, bindKind, bindKinds, legalFields, fieldsOf, isSpace, fieldCount, legalOperation}
+use Rattle.model.specs.Value.{Value}
+use Rattle.model.specs.Statement.{Field, sum, difference, Operation, always, lookup, deposit, transfer}
+use Rattle.model.specs.Legal.{Kinds, kindIn, summable, legalParts, bindKind, bindKinds, legalFields, fieldsOf, isSpace, fieldCount, legalOperation}
 use Rattle.model.specs.Matching.{Tuple, Bindings, matches, oldest}
 use Rattle.model.specs.MatchingLaws.{matched}
+use Rattle.model.specs.BinderLaws.{legal-parts}
 use Rattle.model.specs.Execution.{Result, done, failed, lookedUp, madeAll, appended, perform}
 use Rattle.model.specs.ValidLaws.{tuple-values}
 use Rattle.model.specs.BoundKinds.{Agree, agree-at, agree-bind, fields-cons, binds-nothing, summed, madeAll-legal}
@@ -26,20 +29,18 @@ use Rattle.operations.specs.Performing.{CanDeposit}
 use Rattle.operations.specs.Codes.{CanPerform}
 
 -- a legal field's value can be made
-can-make : (ks now : Kinds) (bs : Bindings) (f : Field) → T (legalField ks now f) → Agree ks bs → CanMake bs f
-unfolding legalField
-can-make ks now bs (actual v) t a = tt
-can-make ks now bs (formal k x) t a = tt
-can-make ks now bs (reference x) t a = tt
-can-make ks now bs (sum x v) t a = summed (kindIn ks x) (getD bs x none) v t (agree-at ks bs x a)
-can-make ks now bs (difference x v) t a = summed (kindIn ks x) (getD bs x none) v t (agree-at ks bs x a)
-can-make ks now bs (anonymous k) t a = tt
+can-make : (ks : Kinds) (bs : Bindings) (f : Field) → T (legalParts ks f) → Agree ks bs → CanMake bs f
+can-make ks bs f t a = record { summed = λ x v e. summed (kindIn ks x) (getD bs x none) v (of-sum x v e) (agree-at ks bs x a) }
+  where
+    of-sum : (x : ℕ) (v : Value) → (f ≡ sum x v) ⊎ (f ≡ difference x v) → T (summable (kindIn ks x) v)
+    of-sum x v (inl e) = unfold legalParts in (rw e at t)
+    of-sum x v (inr e) = unfold legalParts in (rw e at t)
 
 can-make-all : (allowed : List ℕ) (ks now : Kinds) (bs : Bindings) (fs : List Field) → T (legalFields allowed ks now fs) → Agree ks bs → Each (CanMake bs) fs
 can-make-all allowed ks now bs [] t a = each-nil (CanMake bs)
 can-make-all allowed ks now bs (f ∷ fs) t a =
     let h = fields-cons allowed ks now f fs t in
-    each-cons (CanMake bs) f fs (can-make ks now bs f (h .1) a) (can-make-all allowed ks (bindKind now f) bs fs (h .2) a)
+    each-cons (CanMake bs) f fs (can-make ks bs f (legal-parts ks now f (h .1)) a) (can-make-all allowed ks (bindKind now f) bs fs (h .2) a)
 
 can-deposit : (ks : Kinds) (bs : Bindings) (s : ℕ) (fs : List Field) → T (legalOperation ks (deposit s fs)) → Agree ks bs → CanDeposit bs s fs
 unfolding legalOperation fieldCount isSpace

@@ -1,19 +1,19 @@
--- A field after the kinds that are bound: whether it is legal, and what it binds, form by form. Assumes nothing.
+-- A field after the kinds that are bound: whether it is legal, by its parts and by what it binds. Assumes nothing.
 use mathlib.Core.Path.{_≡_, refl, sym, _∙_}
 use Prim.Native.Nat.{ℕ, zero, suc, _-_, _≤_, _<_}
 use native.Mathlib.Omega.{arith}
-use mathlib.Core.Bool.{true, false, not, _&&_}
-use mathlib.Core.Option.{some}
+use mathlib.Core.Bool.{true, false, not, and-true, and-false}
+use mathlib.Core.Option.{none, some}
 use mathlib.Core.List.{[], _∷_}
-use lib.ListN.{set, List·getD-eq-default}
+use lib.ListN.{List·getD-eq-default}
 use lib.Dec.{T, ltb, eqb, ltb→lt}
 use borrow.Author.Tests.{eq-eqb, ne-eqb}
-use Rattle.basis.specs.Choice.{isSome}
-use Rattle.basis.specs.Logic.{and-l, and-r, true-is}
+use Rattle.basis.specs.Choice.{maybe, isSome}
+use Rattle.basis.specs.Logic.{and-l, and-r}
 use Rattle.basis.specs.Sizes.{variables}
 use Rattle.model.specs.Value.{Value, value, name, isKind, legalValue}
-use Rattle.model.specs.Statement.{actual, formal, reference, sum, difference, anonymous}
-use Rattle.model.specs.Legal.{Kinds, kindIn, summable, legalField, bindKind}
+use Rattle.model.specs.Statement.{Field, actual, formal, reference, sum, difference, anonymous, Binder, binderOf}
+use Rattle.model.specs.Legal.{Kinds, kindIn, legalBinder, summable, legalParts, legalField}
 use Rattle.statements.specs.Flat.{fieldOf}
 use Rattle.fields.specs.Kinds.{kinds, kindIs}
 
@@ -48,24 +48,26 @@ unfolding kindIs isSome
 unbound-none zero = refl
 unbound-none (suc k) = rw (ne-eqb (suc k) 0 (λ e. omega arith))
 
-module _ (earlier now : Kinds) (form k x n : ℕ) where
-  pub legal-actual : form ≡ 0 → legalValue (value k n) ≡ legalField earlier now (fieldOf form k x n)
-  unfolding legalField fieldOf
-  legal-actual e = rw e
+-- ---- the parts of a field, form by form
 
-  pub legal-formal : form ≡ 1 → (isKind k && ltb x variables && not (isSome (kindIn now x))) ≡ legalField earlier now (fieldOf form k x n)
-  unfolding legalField fieldOf
-  legal-formal e = rw e
+module _ (earlier : Kinds) (form k x n : ℕ) where
+  pub parts-actual : form ≡ 0 → legalValue (value k n) ≡ legalParts earlier (fieldOf form k x n)
+  unfolding legalParts fieldOf
+  parts-actual e = rw e
 
-  pub legal-reference : form ≡ 2 → isSome (kindIn earlier x) ≡ legalField earlier now (fieldOf form k x n)
-  unfolding legalField fieldOf
-  legal-reference e = rw e
+  pub parts-formal : form ≡ 1 → true ≡ legalParts earlier (fieldOf form k x n)
+  unfolding legalParts fieldOf
+  parts-formal e = rw e
 
-  pub legal-sum : 3 ≤ form → form < 5 → summable (kindIn earlier x) (value k n) ≡ legalField earlier now (fieldOf form k x n)
-  unfolding legalField fieldOf
-  legal-sum l h = go form l h
+  pub parts-reference : form ≡ 2 → isSome (kindIn earlier x) ≡ legalParts earlier (fieldOf form k x n)
+  unfolding legalParts fieldOf
+  parts-reference e = rw e
+
+  pub parts-sum : 3 ≤ form → form < 5 → summable (kindIn earlier x) (value k n) ≡ legalParts earlier (fieldOf form k x n)
+  unfolding legalParts fieldOf
+  parts-sum l h = go form l h
     where
-      go : (f : ℕ) → 3 ≤ f → f < 5 → summable (kindIn earlier x) (value k n) ≡ legalField earlier now (fieldOf f k x n)
+      go : (f : ℕ) → 3 ≤ f → f < 5 → summable (kindIn earlier x) (value k n) ≡ legalParts earlier (fieldOf f k x n)
       go zero l h = absurd (omega arith)
       go (suc zero) l h = absurd (omega arith)
       go (suc (suc zero)) l h = absurd (omega arith)
@@ -73,29 +75,26 @@ module _ (earlier now : Kinds) (form k x n : ℕ) where
       go (suc (suc (suc (suc zero)))) l h = refl
       go (suc (suc (suc (suc (suc m))))) l h = absurd (omega arith)
 
-  pub legal-anonymous : 5 ≤ form → ltb k kinds ≡ legalField earlier now (fieldOf form k x n)
-  unfolding legalField fieldOf isKind
-  legal-anonymous h = rw (List·getD-eq-default (actual (value k n) ∷ formal k x ∷ reference x ∷ sum x (value k n) ∷ difference x (value k n) ∷ []) (anonymous k) h)
+  pub parts-anonymous : 5 ≤ form → ltb k kinds ≡ legalParts earlier (fieldOf form k x n)
+  unfolding legalParts fieldOf isKind
+  parts-anonymous h = rw (List·getD-eq-default (actual (value k n) ∷ formal k x ∷ reference x ∷ sum x (value k n) ∷ difference x (value k n) ∷ []) (anonymous k) h)
 
-  pub binds : form ≡ 1 → set now x (some k) ≡ bindKind now (fieldOf form k x n)
-  unfolding bindKind fieldOf
-  binds e = rw e
+-- ---- a field, by its parts and by what it binds
 
-  pub binds-not : (form ≡ 1 → ⊥) → now ≡ bindKind now (fieldOf form k x n)
-  unfolding bindKind fieldOf
-  binds-not h = go form h
-    where
-      go : (f : ℕ) → (f ≡ 1 → ⊥) → now ≡ bindKind now (fieldOf f k x n)
-      go zero h = refl
-      go (suc zero) h = absurd (h refl)
-      go (suc (suc zero)) h = refl
-      go (suc (suc (suc zero))) h = refl
-      go (suc (suc (suc (suc zero)))) h = refl
-      go (suc (suc (suc (suc (suc m))))) h = refl
+-- a legal binder's kind and variable
+pub binder-parts : (now : Kinds) (b : Binder) → T (legalBinder now b) → (b .kind < kinds) × (b .variable < variables)
+unfolding legalBinder isKind
+binder-parts now b t = (ltb→lt (b .kind) kinds (search (and-l, and-r, t) depth 16), ltb→lt (b .variable) variables (search (and-l, and-r, t) depth 16))
 
--- a form that is not refused is one of a kind and a variable that there are
-pub formal-parts : (earlier now : Kinds) (form k x n : ℕ) → legalField earlier now (fieldOf form k x n) ≡ true → form ≡ 1 → (k < kinds) × (x < variables)
-unfolding isKind
-formal-parts earlier now form k x n e f =
-    let t : T (ltb k kinds && ltb x variables && not (isSome (kindIn now x))) = true-is _ (legal-formal earlier now form k x n f ∙ e) in
-    (ltb→lt k kinds (search (and-l, and-r, t) depth 16), ltb→lt x variables (search (and-l, and-r, t) depth 16))
+module _ (earlier now : Kinds) (f : Field) where
+  pub field-refused : legalParts earlier f ≡ false → false ≡ legalField earlier now f
+  unfolding legalField
+  field-refused p = rw p (sym (and-false (maybe (binderOf f) true (legalBinder now))))
+
+  pub field-binds : (b : Binder) → binderOf f ≡ some b → legalParts earlier f ≡ true → legalBinder now b ≡ legalField earlier now f
+  unfolding legalField
+  field-binds b e p = rw (e, p) (sym (and-true (legalBinder now b)))
+
+  pub field-free : binderOf f ≡ none → legalParts earlier f ≡ true → true ≡ legalField earlier now f
+  unfolding legalField
+  field-free e p = rw (e, p)

@@ -1,18 +1,17 @@
 // Whether a field is legal in an operation, after the kinds that are bound.
 ghost use mathlib.Core.Path.{_≡_};
-ghost use Prim.Native.Nat.{_<_};
+ghost use mathlib.Core.Option.{some};
+ghost use lib.Dec.{T};
+ghost use Rattle.model.specs.Value.{value};
+ghost use Rattle.model.specs.Statement.{Binder, binderOf};
+ghost use Rattle.model.specs.Legal.{kindIn, legalBinder, summable, legalParts, legalField, bindKind};
 ghost use Rattle.statements.specs.Flat.{fieldIs};
-ghost use mathlib.Core.Bool.{not, _&&_};
-ghost use lib.Dec.{ltb};
-ghost use Rattle.basis.specs.Choice.{isSome};
-ghost use Rattle.basis.specs.Sizes.{variables};
-ghost use Rattle.model.specs.Value.{value, isKind};
-ghost use Rattle.model.specs.Legal.{kindIn, summable, legalField, bindKind};
-ghost use Rattle.fields.specs.Kinds.{kinds, kindIs, kindsAre, boundIs};
+ghost use Rattle.fields.specs.Kinds.{kindIs, kindsAre, boundIs};
 ghost use Rattle.fields.specs.Forms.{allows};
 ghost use Rattle.fields.specs.Stepped.{stepped};
 use statements::Field;
 use statements::OUT;
+use statements::binds;
 use values::NAME;
 use values::legal_value;
 use words::VARIABLES;
@@ -54,9 +53,9 @@ fn sum_ok(bound: u8, kind: u8, bits: u32) -> bool
     legal_value(kind, bits)
 }
 
-// Form 1: a kind, and a variable that is not bound yet.
-fn formal_ok(kind: u8, variable: u8, now: [u8; VARIABLES]) -> bool
-    ensures { λ r. ⌜ r ≡ (isKind kind && ltb variable variables && not (isSome (kindIn (kindsAre now) variable))) ⌝ }
+// What a field binds: a kind, and a variable that is not bound yet.
+fn binder_ok(kind: u8, variable: u8, now: [u8; VARIABLES]) -> bool
+    ensures { λ r. ⌜ r ≡ legalBinder (kindsAre now) (record { kind = kind; variable = variable }) ⌝ }
 {
     if KINDS <= kind {
         return false;
@@ -67,18 +66,31 @@ fn formal_ok(kind: u8, variable: u8, now: [u8; VARIABLES]) -> bool
     kind_at(now, variable) == 0
 }
 
-// A field after others: `earlier` has the kinds that earlier operations bound, `now` those bound so far.
-fn field_ok(f: Field, earlier: [u8; VARIABLES], now: [u8; VARIABLES]) -> bool
-    ensures { λ r. ⌜ r ≡ legalField (kindsAre earlier) (kindsAre now) (fieldIs f) ⌝ }
+// What a form asks of a field's other parts.
+fn parts_ok(f: Field, earlier: [u8; VARIABLES]) -> bool
+    ensures { λ r. ⌜ r ≡ legalParts (kindsAre earlier) (fieldIs f) ⌝ }
 {
     let form = f.form;
     match form {
         0 => legal_value(f.kind, f.bits),
-        1 => formal_ok(f.kind, f.variable, now),
+        1 => true,
         2 => kind_at(earlier, f.variable) != 0,
         3 | 4 => sum_ok(kind_at(earlier, f.variable), f.kind, f.bits),
         _ => f.kind < KINDS,
     }
+}
+
+// A field after others: `earlier` has the kinds that earlier operations bound, `now` those bound so far.
+fn field_ok(f: Field, earlier: [u8; VARIABLES], now: [u8; VARIABLES]) -> bool
+    ensures { λ r. ⌜ r ≡ legalField (kindsAre earlier) (kindsAre now) (fieldIs f) ⌝ }
+{
+    if !parts_ok(f, earlier) {
+        return false;
+    }
+    if binds(f) {
+        return binder_ok(f.kind, f.variable, now);
+    }
+    true
 }
 
 // "1 to 4 allow forms 0, 1, 2, 5; out 0, 2, 3, 4; move and copy 0, 2, 5".
@@ -96,11 +108,11 @@ fn form_ok(code: u8, form: u8) -> bool
 
 // The kinds with what a field binds.
 fn bind_kind(f: Field, now: [u8; VARIABLES]) -> [u8; VARIABLES]
-    requires { ⌜ (f .form ≡ 1 → (f .kind < kinds) × (f .variable < variables)) ⌝ }
+    requires { ⌜ ((b : Binder) → binderOf (fieldIs f) ≡ some b → T (legalBinder (kindsAre now) b)) ⌝ }
     ensures { λ r. ⌜ kindsAre r ≡ bindKind (kindsAre now) (fieldIs f) ⌝ }
 {
     let mut kinds = now;
-    if f.form == 1 {
+    if binds(f) {
         kinds[size(f.variable)] = f.kind + 1;
     }
     kinds

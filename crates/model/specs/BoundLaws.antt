@@ -4,29 +4,29 @@ use mathlib.Core.Logic.{_↔_, _⊎_, inl, inr}
 use Prim.Native.Nat.{ℕ, zero, suc, _+_, _<_}
 use native.Mathlib.Omega.{arith}
 use mathlib.Core.Bool.{Bool, true, false, not, _||_, or-true, or-false, or-assoc}
-use mathlib.Core.Option.{none, some}
+use mathlib.Core.Option.{Option, none, some}
 use mathlib.Core.List.{List, [], _∷_, map, flatMap, List·Memᴰ, List·Memᴰ·head, List·Memᴰ·tail, List·Memᴰ·not-nil, Memᴰ·map, Memᴰ·of-map}
 use lib.ListN.{length, length-map, getD, set, replicate}
 use lib.Seq.{getD-set-same, getD-set-other}
-use lib.Dec.{T, T-not, eqb, eqb→eq}
-use Rattle.basis.specs.Choice.{isSome}
+use lib.Dec.{T, eqb, eqb→eq, eqb-refl}
+use Rattle.basis.specs.Choice.{maybe, isSome}
 use Rattle.basis.specs.Logic.{and-l, and-r, not-eq}
 use Rattle.basis.specs.Lists.{any, keep, isIn, countFrom}
 use Rattle.basis.specs.ListLaws.{keep-true, keep-member}
 use Rattle.basis.specs.IndexLaws.{Decides, Least}
 use Rattle.basis.specs.Sizes.{variables}
 use Rattle.model.specs.Value.{Value}
-use Rattle.model.specs.Statement.{Field, actual, formal, reference, sum, difference, anonymous, Operation, always, lookup, deposit, transfer, Branch, operations, Statement}
-use Rattle.model.specs.Legal.{Kinds, noKinds, formOf, bindKind, bindKinds, legalFields, fieldsOf, legalOperation, legalOperations, legalBranch, legalStatement}
-use Rattle.model.specs.LegalWords.{InLookup, InOut, InTransfer, FieldOk, OperationOk, BranchOk, Throughout, throughout-in}
-use Rattle.model.specs.LegalFields.{clash}
+use Rattle.model.specs.Statement.{Field, Binder, binderOf, Operation, always, lookup, deposit, transfer, Branch, operations, Statement}
+use Rattle.model.specs.Legal.{Kinds, noKinds, bindKind, bindKinds, legalFields, fieldsOf, legalOperation, legalOperations, legalBranch, legalStatement}
+use Rattle.model.specs.LegalWords.{FieldOk, FormIn, OperationOk, BranchOk, Throughout, throughout-in}
+use Rattle.model.specs.BinderLaws.{BindsAt, binder-binds, binds-binder, binds-none}
 use Rattle.model.specs.LegalLaws.{branch-iff}
 use Rattle.model.specs.Matching.{Tuple, Bindings, unbound, bindField, bind}
 use Rattle.model.specs.MatchingLaws.{bindField-length}
 use Rattle.model.specs.Execution.{Result, done, failed, perform, performAll, Executed, attempt, tuplesAfter}
 use Rattle.model.specs.OperationLaws.{done-bindings, Taken, always-done, in-removes, rd-reads, out-appends, move-moves, copy-copies, least-in}
 use Rattle.model.specs.ExecutionLaws.{Holds, Runs, attempt-runs, performed-in-order, failure-number}
-use Rattle.model.specs.CheckLaws.{Some, any-iff, equal-iff}
+use Rattle.model.specs.CheckLaws.{Some, any-iff}
 use Rattle.model.specs.BoundKinds.{fields-cons}
 use Rattle.model.specs.Keeps.{legal-branches}
 use Rattle.model.specs.Run.{Reply, boundFrom, ranReply}
@@ -34,14 +34,9 @@ use Rattle.model.specs.RunLaws.{Ends, Answered, answered-words, bound-on
 
 -- ---- what a branch binds, by its text alone
 
--- "Form 1, kind, variable (0 to 15): binds"; no other form does
+-- the field binds the variable
 unfoldable pub bindsField : (variable : ℕ) → Field → Bool
-bindsField x (actual v) = false
-bindsField x (formal k y) = eqb x y
-bindsField x (reference y) = false
-bindsField x (sum y v) = false
-bindsField x (difference y v) = false
-bindsField x (anonymous k) = false
+bindsField x f = maybe (binderOf f) false (λ b. eqb x (b .variable))
 
 -- a field that binds the variable stands in the operation
 unfoldable pub bindsOperation : (variable : ℕ) → Operation → Bool
@@ -51,9 +46,9 @@ bindsOperation x o = any (bindsField x) (fieldsOf o)
 unfoldable pub binds : Branch → (variable : ℕ) → Bool
 binds b x = any (bindsOperation x) (operations b)
 
--- in words: the field is of form 1 and of that variable
+-- in words: the field binds the variable, at some kind
 abbrev pub BindsField : (variable : ℕ) → Field → Type 0
-BindsField x f = (k : ℕ) × (f ≡ formal k x)
+BindsField x f = (k : ℕ) × BindsAt k x f
 
 -- in words: some field of some operation of the guard and body binds the variable
 abbrev pub Binds : Branch → (variable : ℕ) → Type 0
@@ -68,12 +63,11 @@ pub record Valued (b : Branch) (r : Reply) : Type 0 where
 
 field-iff : (x : ℕ) → Decides (bindsField x) (BindsField x)
 unfolding bindsField
-field-iff x (actual v) = (λ t. absurd t, λ q. let e = q .1 in clash cc)
-field-iff x (formal k y) = (λ t. (k, ap (formal k) (sym (eqb→eq x y t))), λ q. let e = q .1 in let w : x ≡ y = cc in equal-iff x y .1 w)
-field-iff x (reference y) = (λ t. absurd t, λ q. let e = q .1 in clash cc)
-field-iff x (sum y v) = (λ t. absurd t, λ q. let e = q .1 in clash cc)
-field-iff x (difference y v) = (λ t. absurd t, λ q. let e = q .1 in clash cc)
-field-iff x (anonymous k) = (λ t. absurd t, λ q. let e = q .1 in clash cc)
+field-iff x f = (go (binderOf f) refl, λ q. rw (binds-binder (q .0) x f (q .1)) (eqb-refl x))
+  where
+    go : (o : Option Binder) → binderOf f ≡ o → T (maybe o false (λ b. eqb x (b .variable))) → BindsField x f
+    go none q t = absurd t
+    go (some b) q t = (b .kind, rw (eqb→eq x (b .variable) t) (binder-binds f b q))
 
 operation-iff : (x : ℕ) → Decides (bindsOperation x) (λ (o : Operation). Some (BindsField x) (fieldsOf o))
 unfolding bindsOperation
@@ -90,17 +84,16 @@ binds-low b x ok q =
     let r = throughout-in (λ earlier o. OperationOk (flatMap fieldsOf earlier) o) (b .guard ∷ b .body) (q .0) (ok .each) (q .1) in
     of-operation (flatMap fieldsOf (r .0)) (q .0) (r .1) (q .2)
   where
-    of-fields : (In : Field → Type 0) (before fs : List Field) → Throughout (λ left f. In f × FieldOk before left f) fs → Some (BindsField x) fs → x < variables
-    of-fields In before fs h q =
-        let r = throughout-in (λ left f. In f × FieldOk before left f) fs (q .0) h (q .1) in
-        let ok : FieldOk before (r .0) (formal (q .2 .0) x) = subst (λ (f : Field). FieldOk before (r .0) f) (q .2 .1) (r .1 .1) in
-        ok .1
+    of-fields : (allowed : List ℕ) (before fs : List Field) → Throughout (λ left f. FormIn allowed f × FieldOk before left f) fs → Some (BindsField x) fs → x < variables
+    of-fields allowed before fs h q =
+        let r = throughout-in (λ left f. FormIn allowed f × FieldOk before left f) fs (q .0) h (q .1) in
+        r .1 .1 .0 (q .2 .0) x (q .2 .1) .1
 
     of-operation : (before : List Field) (o : Operation) → OperationOk before o → Some (BindsField x) (fieldsOf o) → x < variables
     of-operation before always h q = unfold fieldsOf in absurd (List·Memᴰ·not-nil (q .1))
-    of-operation before (lookup withdraws blocks s fs) h q = of-fields InLookup before fs (h .3) (unfold fieldsOf in q)
-    of-operation before (deposit s fs) h q = of-fields InOut before fs (h .3) (unfold fieldsOf in q)
-    of-operation before (transfer withdraws from to fs) h q = of-fields InTransfer before fs (h .3) (unfold fieldsOf in q)
+    of-operation before (lookup withdraws blocks s fs) h q = of-fields (0 ∷ 1 ∷ 2 ∷ 5 ∷ []) before fs (h .3) (unfold fieldsOf in q)
+    of-operation before (deposit s fs) h q = of-fields (0 ∷ 2 ∷ 3 ∷ 4 ∷ []) before fs (h .3) (unfold fieldsOf in q)
+    of-operation before (transfer withdraws from to fs) h q = of-fields (0 ∷ 2 ∷ 5 ∷ []) before fs (h .3) (unfold fieldsOf in q)
 
 -- ---- what operations bind as they run
 
@@ -123,19 +116,18 @@ more-then f g bs bs′ bs″ m n = record {
 
 field-binds : (bs : Bindings) (f : Field) (v : Value) (x : ℕ) → x < length bs → isBound (bindField bs f v) x ≡ (isBound bs x || bindsField x f)
 unfolding bindField bindsField isSome
-field-binds bs (actual u) v x h = sym (or-false (isBound bs x))
-field-binds bs (formal k y) v x h = go (eqb x y) refl
+field-binds bs f v x h = go (binderOf f)
   where
-    go : (c : Bool) → eqb x y ≡ c → isBound (set bs y (some v)) x ≡ (isBound bs x || c)
-    go true q =
+    sets : (y : ℕ) (c : Bool) → eqb x y ≡ c → isBound (set bs y (some v)) x ≡ (isBound bs x || c)
+    sets y true q =
         let e : x ≡ y = eqb→eq x y (rw q tt) in
         let s : isBound (set bs x (some v)) x ≡ true = unfold isSome in ap isSome (getD-set-same bs x (some v) none h) in
         rw (← e) (s ∙ sym (or-true (isBound bs x)))
-    go false q = ap isSome (getD-set-other bs y x (some v) none (not-eq x y (rw q tt))) ∙ sym (or-false (isBound bs x))
-field-binds bs (reference y) v x h = sym (or-false (isBound bs x))
-field-binds bs (sum y u) v x h = sym (or-false (isBound bs x))
-field-binds bs (difference y u) v x h = sym (or-false (isBound bs x))
-field-binds bs (anonymous k) v x h = sym (or-false (isBound bs x))
+    sets y false q = ap isSome (getD-set-other bs y x (some v) none (not-eq x y (rw q tt))) ∙ sym (or-false (isBound bs x))
+
+    go : (o : Option Binder) → isBound (maybe o bs (λ b. set bs (b .variable) (some v))) x ≡ (isBound bs x || maybe o false (λ b. eqb x (b .variable)))
+    go none = sym (or-false (isBound bs x))
+    go (some b) = sets (b .variable) (eqb x (b .variable)) refl
 
 -- a template binds, at as many values, what its fields bind
 bind-binds : (bs : Bindings) (fs : List Field) (vs : List Value) → length vs ≡ length fs → More (λ x. any (bindsField x) fs) bs (bind bs fs vs)
@@ -150,14 +142,9 @@ bind-binds bs (f ∷ fs) (v ∷ vs) n =
 taken-binds : (s : ℕ) (fs : List Field) (bs : Bindings) (ts : List Tuple) (bs′ : Bindings) → Taken s fs bs ts bs′ → More (λ x. any (bindsField x) fs) bs bs′
 taken-binds s fs bs ts bs′ h = rw (h .bound) (bind-binds bs fs (h .tuple .values) (h .oldest .passes .count))
 
-other-form : (allowed : List ℕ) (f : Field) (x : ℕ) → T (not (isIn 1 allowed)) → T (isIn (formOf f) allowed) → bindsField x f ≡ false
-unfolding formOf bindsField
-other-form allowed (actual v) x barred t = refl
-other-form allowed (formal k y) x barred t = absurd (T-not (isIn 1 allowed) barred t)
-other-form allowed (reference y) x barred t = refl
-other-form allowed (sum y v) x barred t = refl
-other-form allowed (difference y v) x barred t = refl
-other-form allowed (anonymous k) x barred t = refl
+other-form : (f : Field) (x : ℕ) → binderOf f ≡ none → bindsField x f ≡ false
+unfolding bindsField
+other-form f x e = rw e
 
 -- fields of which none may be of form 1 bind nothing
 no-form-1 : (allowed : List ℕ) (earlier now : Kinds) (fs : List Field) (x : ℕ) → T (not (isIn 1 allowed)) → T (legalFields allowed earlier now fs) → any (bindsField x) fs ≡ false
@@ -165,7 +152,7 @@ unfolding any
 no-form-1 allowed earlier now [] x barred t = refl
 no-form-1 allowed earlier now (f ∷ fs) x barred t =
     let h = fields-cons allowed earlier now f fs t in
-    rw (other-form allowed f x barred (h .0)) (no-form-1 allowed earlier (bindKind now f) fs x barred (h .2))
+    rw (other-form f x (binds-none allowed f barred (h .0))) (no-form-1 allowed earlier (bindKind now f) fs x barred (h .2))
 
 out-binds : (ks : Kinds) (s : ℕ) (fs : List Field) (x : ℕ) → T (legalOperation ks (deposit s fs)) → any (bindsField x) fs ≡ false
 unfolding legalOperation isIn any

@@ -32,23 +32,15 @@ fieldParts (sum x v) = record { form = 3; kind = v .kind; variable = x; bits = v
 fieldParts (difference x v) = record { form = 4; kind = v .kind; variable = x; bits = v .bits }
 fieldParts (anonymous k) = record { form = 5; kind = k; variable = 0; bits = 0 }
 
-field-is : (f : model.Field) → fieldIs (fieldParts f) ≡ f
-unfolding fieldIs fieldOf fieldParts
-field-is (actual v) = refl
-field-is (formal k x) = refl
-field-is (reference x) = refl
-field-is (sum x v) = refl
-field-is (difference x v) = refl
-field-is (anonymous k) = refl
-
-field-has : (f : model.Field) → T (hasForm (fieldParts f))
-unfolding hasForm fieldParts
-field-has (actual v) = tt
-field-has (formal k x) = tt
-field-has (reference x) = tt
-field-has (sum x v) = tt
-field-has (difference x v) = tt
-field-has (anonymous k) = tt
+-- they are the field's, of one of the six forms
+parts-are : (f : model.Field) → (fieldIs (fieldParts f) ≡ f) × T (hasForm (fieldParts f))
+unfolding fieldIs fieldOf hasForm fieldParts
+parts-are (actual v) = (refl, tt)
+parts-are (formal k x) = (refl, tt)
+parts-are (reference x) = (refl, tt)
+parts-are (sum x v) = (refl, tt)
+parts-are (difference x v) = (refl, tt)
+parts-are (anonymous k) = (refl, tt)
 
 -- room for six
 abbrev noField : Field
@@ -64,12 +56,12 @@ six-take fs = take-at (map fieldParts fs) (replicate (mostFields - length fs) no
 all-have : (fs : List model.Field) → T (all hasForm (map fieldParts fs))
 unfolding all
 all-have [] = tt
-all-have (f ∷ fs) = both (hasForm (fieldParts f)) (all hasForm (map fieldParts fs)) (field-has f) (all-have fs)
+all-have (f ∷ fs) = both (hasForm (fieldParts f)) (all hasForm (map fieldParts fs)) (parts-are f .1) (all-have fs)
 
 fields-are : (fs : List model.Field) → fieldsAre (map fieldParts fs) ≡ fs
 unfolding fieldsAre
 fields-are [] = refl
-fields-are (f ∷ fs) = λ i. field-is f i ∷ fields-are fs i
+fields-are (f ∷ fs) = λ i. parts-are f .0 i ∷ fields-are fs i
 
 -- an operation of a code, spaces and fields
 abbrev made : (code from to : ℕ) → List model.Field → Operation

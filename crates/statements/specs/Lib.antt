@@ -1,4 +1,5 @@
 pub mod At
+pub mod Binds
 pub mod BranchAt
 pub mod Ends
 pub mod Fields

@@ -4,13 +4,15 @@ ghost use Prim.Native.Nat.{ℕ, _+_, _≤_, _<_};
 ghost use mathlib.Core.List.{List};
 ghost use lib.ListN.{length, getD};
 ghost use mathlib.Core.Option.{none};
-ghost use Rattle.model.specs.Statement.{always};
+ghost use Rattle.model.specs.Statement.{binderOf, always};
+ghost use Rattle.basis.specs.Choice.{provided};
 ghost use Rattle.basis.specs.Lists.{all};
 ghost use Rattle.basis.specs.Sizes.{spaceWidth, mostFields, spacesWidth};
 ghost use Rattle.model.specs.Reading.{field, several};
 ghost use Rattle.statements.specs.At.{readAt, passed, ended, position};
 ghost use Rattle.statements.specs.Flat.{codes, hasForm, fieldIs, fieldRead, fieldsRead, operationIs, Reads, fewFields, operationAt, Fronts, bareAt, bareIs};
 ghost use Rattle.statements.specs.Operations.{afterCode, namedWidth, secondSpace};
+ghost use Rattle.statements.specs.Binds.{binderIn};
 ghost use Rattle.statements.specs.Fields.{widthOf, fieldParts, fieldEnd};
 ghost use lib.Dec.{T};
 use words::ACTUAL;
@@ -50,6 +52,13 @@ pub struct Field {
     pub kind: u8,
     pub variable: u8,
     pub bits: u32,
+}
+
+// Whether a field binds: its variable, at its kind.
+pub fn binds(f: Field) -> bool
+    ensures { λ r. ⌜ provided r (binderIn f) ≡ binderOf (fieldIs f) ⌝ }
+{
+    f.form == 1
 }
 
 // A field that was read, and the position after it; 0: there is none.

@@ -1,65 +1,39 @@
 -- `fields::field_ok` meets its contract. Assumes nothing.
-use mathlib.Core.Path.{ap, _∙_}
-use native.Mathlib.Omega.{arith}
+use mathlib.Core.Path.{sym, _∙_}
+use borrow.Author.Tests.{not-true, not-false}
 use borrow.Author.Needs.{needs}
-use Rattle.basis.specs.Choice.{isSome}
-use Rattle.model.specs.Value.{value}
-use Rattle.model.specs.Legal.{summable}
 use Rattle.statements.specs.Flat.{fieldIs}
+use Rattle.statements.specs.Binds.{binderIn, binds-some, binds-none}
 use Rattle.fields.specs.Kinds.{kindsAre}
-use Rattle.fields.specs.FieldLaws.{bound-some, legal-actual, legal-formal, legal-reference, legal-sum, legal-anonymous}
+use Rattle.fields.specs.FieldLaws.{field-refused, field-binds, field-free}
 use Rattle.fields.proofs.field_ok.Statement.{statement}
 use Rattle.fields.proofs.field_ok.Tie as tie
 
-legal-value-requires : tie.Need-legal-value-requires
-legal-value-requires c κs = search needs
-
-formal-ok-requires : tie.Need-formal-ok-requires
-formal-ok-requires c κs = search needs
-
-kind-at-requires : tie.Need-kind-at-requires
-kind-at-requires c κs = search needs
-
-kind-at-requires-2 : tie.Need-kind-at-requires-2
-kind-at-requires-2 c κs = search needs
-
-sum-ok-requires : tie.Need-sum-ok-requires
-sum-ok-requires c κs = search needs
+parts-ok-requires : tie.Need-parts-ok-requires
+parts-ok-requires c κs = search needs
 
 returns : tie.Need-returns
-unfolding fieldIs
-returns c = let s = c .before .before in c .legal-value .ensures ∙ legal-actual (kindsAre (s .args .earlier)) (kindsAre (s .args .now)) (s .args .f .form) (s .args .f .kind) (s .args .f .variable) (s .args .f .bits) (c .before .match .keys1)
+returns c = let s = c .before .before in
+    field-refused (kindsAre (s .args .earlier)) (kindsAre (s .args .now)) (fieldIs (s .args .f)) (sym (c .before .parts-ok .ensures) ∙ not-true _ (c .if1 .taken))
+
+binds-requires : tie.Need-binds-requires
+binds-requires c κs = search needs
+
+binder-ok-requires : tie.Need-binder-ok-requires
+binder-ok-requires c κs = search needs
 
 returns-2 : tie.Need-returns-2
-unfolding fieldIs
-returns-2 c = let s = c .before .before in c .formal-ok .ensures ∙ legal-formal (kindsAre (s .args .earlier)) (kindsAre (s .args .now)) (s .args .f .form) (s .args .f .kind) (s .args .f .variable) (s .args .f .bits) (c .before .match .keys2)
+returns-2 c =
+    let b = c .before .before in
+    let s = b .before .before .before in
+    c .binder-ok .ensures
+    ∙ field-binds (kindsAre (s .args .earlier)) (kindsAre (s .args .now)) (fieldIs (s .args .f)) (binderIn (s .args .f)) (binds-some (s .args .f) (b .binds .result) (b .binds .ensures) (c .before .if2 .taken)) (sym (b .before .before .parts-ok .ensures) ∙ not-false _ (b .before .if1 .left))
 
 returns-3 : tie.Need-returns-3
-unfolding fieldIs
-returns-3 c = let s = c .before .before in bound-some (c .kind-at .result) ∙ ap isSome (c .kind-at .ensures) ∙ legal-reference (kindsAre (s .args .earlier)) (kindsAre (s .args .now)) (s .args .f .form) (s .args .f .kind) (s .args .f .variable) (s .args .f .bits) (c .before .match .keys3)
-
-returns-4 : tie.Need-returns-4
-unfolding fieldIs
-returns-4 c = let k = c .before .before .before in
-    let s = k .before in
-    let r = k .match .rest in
-    c .sum-ok .ensures ∙ ap (λ o. summable o (value (s .args .f .kind) (s .args .f .bits))) (c .before .kind-at2 .ensures) ∙ legal-sum (kindsAre (s .args .earlier)) (kindsAre (s .args .now)) (s .args .f .form) (s .args .f .kind) (s .args .f .variable) (s .args .f .bits) (omega (arith, r .0 .0 .1, r .0 .1, r .1)) (c .before .before .if1 .taken)
-
-returns-5 : tie.Need-returns-5
-unfolding fieldIs
-returns-5 c = let s = c .before .before .before in legal-anonymous (kindsAre (s .args .earlier)) (kindsAre (s .args .now)) (s .args .f .form) (s .args .f .kind) (s .args .f .variable) (s .args .f .bits) (c .before .if1 .left)
+returns-3 c =
+    let b = c .before in
+    let s = b .before .before .before in
+    field-free (kindsAre (s .args .earlier)) (kindsAre (s .args .now)) (fieldIs (s .args .f)) (binds-none (s .args .f) (b .binds .result) (b .binds .ensures) (c .if2 .left)) (sym (b .before .before .parts-ok .ensures) ∙ not-false _ (b .before .if1 .left))
 
 pub field-ok-spec : {M : Type 1} → statement M
-field-ok-spec =
-    tie.close
-    (tie.spec
-    legal-value-requires
-    formal-ok-requires
-    kind-at-requires
-    kind-at-requires-2
-    sum-ok-requires
-    returns
-    returns-2
-    returns-3
-    returns-4
-    returns-5)
+field-ok-spec = tie.close (tie.spec parts-ok-requires returns binds-requires binder-ok-requires returns-2 returns-3)

@@ -2,9 +2,10 @@
 use mathlib.Core.Path.{sym, _∙_}
 use borrow.Author.Tests.{not-true, not-false}
 use borrow.Author.Needs.{needs}
+use Rattle.basis.specs.Logic.{true-is}
+use Rattle.model.specs.BinderLaws.{legal-binder}
 use Rattle.statements.specs.Flat.{fieldIs}
 use Rattle.fields.specs.Kinds.{kindsAre}
-use Rattle.fields.specs.FieldLaws.{formal-parts}
 use Rattle.fields.specs.Stepped.{stepped-refused, stepped-legal}
 use Rattle.fields.proofs.field_step.Statement.{statement}
 use Rattle.fields.proofs.field_step.Tie as tie
@@ -23,9 +24,8 @@ returns-2 c = let s = c .before .before .before .before in
     stepped-refused (s .args .code) (kindsAre (s .args .earlier)) (kindsAre (s .args .now)) (fieldIs (s .args .f)) (s .args .f .form) _ (rw (sym (c .before .before .before .form-ok .ensures) ∙ not-false _ (c .before .before .if1 .left), sym (c .before .field-ok .ensures) ∙ not-true _ (c .if2 .taken)))
 
 bind-kind-requires : tie.Need-bind-kind-requires
-unfolding fieldIs
-bind-kind-requires c κs = let s = c .before .before .before .before in
-    formal-parts (kindsAre (s .args .earlier)) (kindsAre (s .args .now)) (s .args .f .form) (s .args .f .kind) (s .args .f .variable) (s .args .f .bits) (sym (c .before .field-ok .ensures) ∙ not-false _ (c .if2 .left))
+bind-kind-requires c κs b e = let s = c .before .before .before .before in
+    legal-binder (kindsAre (s .args .earlier)) (kindsAre (s .args .now)) (fieldIs (s .args .f)) b e (true-is _ (sym (c .before .field-ok .ensures) ∙ not-false _ (c .if2 .left)))
 
 returns-3 : tie.Need-returns-3
 returns-3 c = let s = c .before .before .before .before .before in

@@ -1,0 +1,85 @@
+-- What a field binds: the word for it, and what holds of a field by what it binds, whatever its form. Assumes nothing.
+use mathlib.Core.Path.{_≡_, refl, ap}
+use Prim.Native.Nat.{ℕ}
+use mathlib.Core.Bool.{true, not}
+use mathlib.Core.Option.{Option, none, some, Option·some-injective, Option·none-ne-some}
+use mathlib.Core.List.{List}
+use lib.ListN.{set}
+use lib.Dec.{T, T-not}
+use Rattle.basis.specs.Choice.{maybe}
+use Rattle.basis.specs.Logic.{and-l, and-r}
+use Rattle.basis.specs.Lists.{isIn}
+use Rattle.model.specs.Value.{Value}
+use Rattle.model.specs.Statement.{Field, actual, formal, reference, sum, difference, anonymous, Binder, binderOf}
+use Rattle.model.specs.Legal.{Kinds, formOf, legalBinder, legalParts, legalField, bindKind}
+use Rattle.model.specs.Matching.{Bindings, templateField, bindField}
+use Rattle.model.specs.CheckLaws.{Some}
+
+-- "Form 1, kind, variable (0 to 15): binds"; no other form does
+abbrev pub BindsAt : (kind variable : ℕ) → Field → Type 0
+BindsAt k x f = f ≡ formal k x
+
+-- some field binds the variable at the kind
+abbrev pub BoundIn : (kind variable : ℕ) → List Field → Type 0
+BoundIn k x fs = Some (BindsAt k x) fs
+
+-- a field that binds, binds what its binder says
+pub binder-binds : (f : Field) (b : Binder) → binderOf f ≡ some b → BindsAt (b .kind) (b .variable) f
+unfolding binderOf
+binder-binds (actual v) b e = absurd (Option·none-ne-some b e)
+binder-binds (formal k x) b e = ap (λ (c : Binder). formal (c .kind) (c .variable)) (Option·some-injective (record { kind = k; variable = x }) b e)
+binder-binds (reference x) b e = absurd (Option·none-ne-some b e)
+binder-binds (sum x v) b e = absurd (Option·none-ne-some b e)
+binder-binds (difference x v) b e = absurd (Option·none-ne-some b e)
+binder-binds (anonymous k) b e = absurd (Option·none-ne-some b e)
+
+-- and only such a field does
+pub binds-binder : (k x : ℕ) (f : Field) → BindsAt k x f → binderOf f ≡ some (record { kind = k; variable = x })
+unfolding binderOf
+binds-binder k x f e = rw e
+
+-- a template asks for a value of the binder's kind
+pub binder-kind : (bs : Bindings) (f : Field) (b : Binder) → binderOf f ≡ some b → (templateField bs f) .kind ≡ b .kind
+unfolding templateField
+binder-kind bs f b e = rw (binder-binds f b e)
+
+-- a field of a form that is allowed, where form 1 is not, binds nothing
+pub binds-none : (allowed : List ℕ) (f : Field) → T (not (isIn 1 allowed)) → T (isIn (formOf f) allowed) → binderOf f ≡ none
+binds-none allowed f barred t = go (binderOf f) refl
+  where
+    barred-form : (b : Binder) → binderOf f ≡ some b → T (isIn 1 allowed)
+    barred-form b e = unfold formOf in (rw (binder-binds f b e) at t)
+
+    go : (o : Option Binder) → binderOf f ≡ o → binderOf f ≡ none
+    go none q = q
+    go (some b) q = absurd (T-not (isIn 1 allowed) barred (barred-form b q))
+
+-- ---- binding: a field that binds nothing leaves all variables, one that binds sets its own
+
+pub kinds-left : (ks : Kinds) (f : Field) → binderOf f ≡ none → bindKind ks f ≡ ks
+unfolding bindKind
+kinds-left ks f e = rw e
+
+pub kinds-set : (ks : Kinds) (f : Field) (b : Binder) → binderOf f ≡ some b → bindKind ks f ≡ set ks (b .variable) (some (b .kind))
+unfolding bindKind
+kinds-set ks f b e = rw e
+
+pub values-left : (bs : Bindings) (f : Field) (v : Value) → binderOf f ≡ none → bindField bs f v ≡ bs
+unfolding bindField
+values-left bs f v e = rw e
+
+pub values-set : (bs : Bindings) (f : Field) (v : Value) (b : Binder) → binderOf f ≡ some b → bindField bs f v ≡ set bs (b .variable) (some v)
+unfolding bindField
+values-set bs f v b e = rw e
+
+-- ---- a legal field
+
+-- its parts are legal
+pub legal-parts : (earlier now : Kinds) (f : Field) → T (legalField earlier now f) → T (legalParts earlier f)
+unfolding legalField
+legal-parts earlier now f t = and-r (maybe (binderOf f) true (legalBinder now)) (legalParts earlier f) t
+
+-- and so is what it binds
+pub legal-binder : (earlier now : Kinds) (f : Field) (b : Binder) → binderOf f ≡ some b → T (legalField earlier now f) → T (legalBinder now b)
+unfolding legalField
+legal-binder earlier now f b e t = rw e at (and-l (maybe (binderOf f) true (legalBinder now)) (legalParts earlier f) t)
