@@ -1,2 +1,4 @@
 pub mod Moves
+pub mod SelectedLaws
 pub mod MoveLaws
+pub mod CopyLaws

@@ -1,144 +1,168 @@
--- What passes over a section leave: the others closed up in place, the selected ones held beside it, both put together. Assumes nothing.
-use mathlib.Core.Path.{_≡_, refl, sym, ap, subst, _∙_}
-use Prim.Native.Nat.{ℕ, _+_, _-_, _≤_, _<_}
+-- A move under way: one tuple more, moved or kept, and how it ends. Assumes nothing.
+use mathlib.Core.Path.{_≡_, refl, sym, ap, _∙_}
+use Prim.Native.Nat.{ℕ, _+_, _-_, _*_, _≤_, _<_}
 use native.Mathlib.Omega.{arith}
-use native.Mathlib.Nat.{add-zero}
-use mathlib.Core.Bool.{Bool, true, false, not}
-use mathlib.Core.List.{List, [], _∷_, _++_, map-append}
-use lib.ListN.{length, take, drop, getD, length-drop, length-map}
-use lib.Seq.{take-all, length-take-le}
-use lib.Dec.{eqb}
-use borrow.Author.Tests.{eq-eqb, ne-eqb}
-use Rattle.basis.specs.Lists.{keep, pieces}
-use Rattle.basis.specs.ListLaws.{Each, each-map, keep-in, keep-length}
-use Rattle.basis.specs.Numbers.{bigEndian}
-use Rattle.basis.specs.NumberLaws.{bigEndian-length}
-use Rattle.basis.specs.Sizes.{spaceWidth, spaceNumbers, mostTuples, tupleSize, tuplesSize}
-use Rattle.model.specs.Matching.{Tuple, sameSpace, isMatch, selected}
+use mathlib.Core.Bool.{true, false}
+use mathlib.Core.List.{List, [], _∷_, _++_, append-assoc, append-nil}
+use lib.ListN.{length, take, drop, length-append, length-drop, take-append-drop, drop-of-length-le}
+use lib.Seq.{take-all, length-take-le, take-append-le, drop-append-le}
+use Rattle.basis.specs.Lists.{keep}
+use Rattle.basis.specs.ListLaws.{Each, each-append}
+use Rattle.basis.specs.Sizes.{spaceNumbers, tupleSize}
+use Rattle.model.specs.Matching.{Tuple, selected}
 use Rattle.model.specs.Execution.{inSpace, moved}
-use Rattle.model.specs.Valid.{legalTuple}
-use Rattle.layout.specs.States.{tupleRead}
-use Rattle.words.specs.Over.{over}
-use Rattle.words.specs.OverLaws.{over-split, over-left, over-right, over-length, take-over-past}
-use Rattle.sections.specs.Rows.{Rows, HasRows, rowsFrom, rowsOver}
-use Rattle.sections.specs.RowLaws.{pieces-at}
-use Rattle.sections.specs.Loops.{keep-yes, keep-no, Sifted}
-use Rattle.sections.specs.Shapes.{items-length, holds-length, holds-count, holds-keep}
-use Rattle.sections.specs.FirstRows.{FirstRows, rows-none, rows-one-more, holds-added}
+use Rattle.words.specs.OverLaws.{over-own}
+use Rattle.sections.specs.Rows.{HasRows, rowsFrom, rowsOver}
+use Rattle.sections.specs.RowLaws.{rows-further}
+use Rattle.sections.specs.Shapes.{items-length, holds-length}
+use Rattle.sections.specs.FirstRows.{FirstRows, rows-none, rows-one, rows-added, rows-put-in, rows-all, holds-rest}
 use Rattle.tuples.specs.Section.{Legal, tupleShape, entryBytes, entryAt, tupleAt, tuplesOf, Holds, Section}
-use Rattle.tuples.specs.SectionLaws.{read-take, entry-is, space-set}
+use Rattle.tuples.specs.SectionLaws.{entry-is}
 use Rattle.matching.specs.declared.Template.{Template}
-use Rattle.moves.specs.declared.Copied.the-variants.{Now, Full}
 use Rattle.matching.specs.Meaning.{templateIs}
-use Rattle.matching.specs.SearchLaws.{template-length}
 use Rattle.tuples.specs.Entry.{withSpace}
-use Rattle.moves.specs.Moves.{others, relocated, Copies}
+use Rattle.moves.specs.Moves.{others, relocated, Parted, Keeps}
+use Rattle.moves.specs.SelectedLaws.{tested, others-no, others-yes, others-legal, relocated-no, relocated-yes, relocated-legal, relocated-row}
 
--- ---- which tuples are selected
+-- ---- one step
 
-module _ (t : Template) (u : Tuple) where
-  -- all of the space
-  pub selected-space : (s : ℕ) → s ≡ u .space → t .count ≡ 0 → eqb s (t .space) ≡ selected (templateIs t) u
-  unfolding selected sameSpace
-  selected-space s e z = rw (template-length t 0 (t .count), eq-eqb (t .count) 0 z, e)
+module _ {p a b : List ℕ} {m k i : ℕ} {os rs : List Tuple} (h : Parted p a b m k i os rs) where
+  -- the row that comes next, and those after it
+  parted-entry : entryAt a i ≡ entryAt p i
+  unfolding entryAt
+  parted-entry = ap (take tupleSize) (h .back)
 
-  -- where there are fields, those that match
-  pub selected-match : (t .count ≡ 0 → ⊥) → isMatch (templateIs t) u ≡ selected (templateIs t) u
-  unfolding selected
-  selected-match z = rw (template-length t 0 (t .count), ne-eqb (t .count) 0 z)
+  parted-row : (u : Tuple) → entryAt p i ≡ entryBytes u → FirstRows tupleShape (rowsFrom tupleSize a i) 1 (u ∷ [])
+  unfolding entryAt
+  parted-row u is = rows-one tupleShape (rowsFrom tupleSize a i) u (parted-entry ∙ is)
 
--- ---- the others, closed up
+  later : rowsFrom tupleSize a (i + 1) ≡ rowsFrom tupleSize p (i + 1)
+  later = rows-further tupleSize i (i + 1) a p (omega arith) (h .back)
 
--- a row that is kept
-abbrev pub otherRow : Template → List ℕ → Bool
-otherRow t r = not (selected (templateIs t) (tupleRead r))
+  -- how many others there are, and how many that were moved
+  others-count : length os + k ≡ i
+  others-count = omega (arith, h .kept .count, length-drop m os, h .room, h .few)
 
--- the row that is tested is the section's
-pub tested : (t : Template) (p₀ p : List ℕ) (n m i : ℕ) → Sifted (otherRow t) tupleSize p₀ n p m i → i < n → (b : Bool) → selected (templateIs t) (tupleAt p i) ≡ b → otherRow t (getD (pieces n tupleSize p₀) i []) ≡ not b
-unfolding tupleAt entryAt
-tested t p₀ p n m i k h b e =
-    let same : entryAt p i ≡ getD (pieces n tupleSize p₀) i [] = ap (take tupleSize) (k .back) ∙ sym (pieces-at n tupleSize p₀ i h) in
-    ap not (ap (λ (r : List ℕ). selected (templateIs t) (tupleRead r)) (sym same) ∙ e)
+  moved-count : k ≡ length rs
+  moved-count = omega (arith, h .front .count, length-append (take m os) rs, length-take-le m os (h .few))
 
-pub others-kept : (t : Template) (p q : List ℕ) (n m : ℕ) → Section p n → Rows (length p) tupleSize q m (keep (otherRow t) (pieces n tupleSize p)) → Holds q m (others t (tuplesOf p n))
-unfolding others
-others-kept t p q n m s r =
-    holds-keep tupleShape p n (tuplesOf p n) s (otherRow t) (λ (u : Tuple). not (selected (templateIs t) u)) (λ u l. ap (λ (v : Tuple). not (selected (templateIs t) v)) (tupleShape .back u l)) q m r
+  -- one that is moved
+  parted-moved : (u : Tuple) (to : ℕ) (c : List ℕ) → entryAt p i ≡ entryBytes u → HasRows tupleSize a (i + 1) → c ≡ rowsOver tupleSize a (m + k) (withSpace to (rowsFrom tupleSize a i)) 1
+      → Parted p c b m (k + 1) (i + 1) os (rs ++ (inSpace to u ∷ []))
+  parted-moved u to c is room stored =
+      let x : List Tuple = inSpace to u ∷ [] in
+      let r = rows-added tupleShape a c (withSpace to (rowsFrom tupleSize a i)) (m + k) 1 (take m os ++ rs) x (h .front) (relocated-row a i to u room (parted-entry ∙ is)) stored in
+      let below = h .room in
+      let one : m + k + 1 ≡ m + (k + 1) = omega arith in
+      let gap : i + 1 - (m + (k + 1)) ≡ i - (m + k) = omega arith in
+      record {
+        room = omega arith;
+        few = h .few;
+        early = λ z. absurd (omega arith);
+        front = rw (one, append-assoc (take m os) rs x) at (r .0);
+        kept = rw gap (h .kept);
+        back = rows-further tupleSize (m + k + 1) (i + 1) c a (omega arith) (r .1) ∙ later;
+      }
 
--- ---- the selected ones, held beside the section
+  -- those that are held put in
+  parted-put-in : (x : ℕ) (d : List ℕ) → m + x + k ≡ i → HasRows tupleSize a i → d ≡ rowsOver tupleSize (rowsOver tupleSize a (m + x) (rowsFrom tupleSize a m) k) m b x → Parted p d b (m + x) k i os rs
+  parted-put-in x d all room stored =
+      let gap : i - (m + k) ≡ x = omega arith in
+      let none : i - (m + x + k) ≡ 0 = omega arith in
+      let past : length os ≤ m + x = omega (arith, others-count) in
+      let r = rows-put-in tupleShape a _ d b m k x (take m os) rs (drop m os) (h .front) (sym (length-take-le m os (h .few))) (rw gap at (h .kept)) (omega arith) refl stored in
+      let list : take m os ++ (drop m os ++ rs) ≡ take (m + x) os ++ rs = sym (append-assoc (take m os) (drop m os) rs) ∙ rw (take-append-drop m os, take-all (m + x) os past) in
+      record {
+        room = omega arith;
+        few = omega (arith, others-count);
+        early = λ z. omega arith;
+        front = rw list at (r .0);
+        kept = rw none (rows-none tupleShape b (drop (m + x) os) (drop-of-length-le os past));
+        back = rw all at (r .1) ∙ h .back;
+      }
 
--- a store, and one at the beginning of what it stored
-pub over-inner : (d e f : List ℕ) (at : ℕ) (s : List ℕ) (n : ℕ) (t : List ℕ) (m : ℕ) → at + n ≤ length d → n ≤ length s → m ≤ n → m ≤ length t → e ≡ over d at s n → f ≡ over e at t m → f ≡ over d at (over s 0 t m) n
-over-inner d e f at s n t m room enough small all one two =
-    let a : List ℕ = take at d in
-    let b : List ℕ = take n s in
-    let c : List ℕ = drop (at + n) d in
-    let la : length a ≡ at = length-take-le at d (omega arith) in
-    let lb : length b ≡ n = length-take-le n s enough in
-    let past : over (a ++ (b ++ c)) (at + 0) t m ≡ a ++ over (b ++ c) 0 t m = over-right a (b ++ c) at 0 t m la in
-    let front : over (b ++ c) 0 t m ≡ over b 0 t m ++ c = over-left b c 0 t m (omega arith) in
-    let same : take n (over s 0 t m) ≡ over b 0 t m = take-over-past s 0 t m (omega arith) all n (omega arith) enough in
-    two ∙ ap (λ (l : List ℕ). over l at t m) (one ∙ over-split d at s n) ∙ ap (λ (k : ℕ). over (a ++ (b ++ c)) k t m) (sym (add-zero at)) ∙ past
-    ∙ ap (λ (l : List ℕ). a ++ l) front ∙ sym (over-split d at (over s 0 t m) n ∙ ap (λ (l : List ℕ). a ++ (l ++ c)) same)
+  -- all are seen, and none is held
+  parted-all : m + k ≡ i → Section p i → Each Legal os → Each Legal rs → Holds a i (os ++ rs)
+  parted-all all s legal lawful =
+      let same : take m os ≡ os = take-all m os (omega (arith, others-count)) in
+      rows-all tupleShape a i (os ++ rs) (rw (all, same) at (h .front)) (s .few) (each-append Legal os rs legal lawful) (h .back ∙ holds-rest tupleShape p i (tuplesOf p i) s (i * tupleSize) (omega arith))
 
-pub gather-none : (t : Template) (to : ℕ) (p b : List ℕ) (n : ℕ) → FirstRows tupleShape b 0 (relocated t to (take 0 (tuplesOf p n)))
-gather-none t to p b n = rows-none tupleShape b (relocated t to []) (unfold relocated keep in refl)
+-- one of the others
+module _ {a b : List ℕ} {m k i : ℕ} where
+  -- it stays, where none was moved
+  pub keeps-in-place : k ≡ 0 → Keeps a b a b m k i (m + 1)
+  keeps-in-place z p os rs u h is =
+      let next : List Tuple = os ++ (u ∷ []) in
+      let count = others-count h in
+      let here : m ≡ i = h .early z in
+      let no : length rs ≤ 0 = omega (arith, moved-count h) in
+      let none : rs ≡ [] = drop-of-length-le rs no in
+      let old : take m os ≡ os = take-all m os (omega arith) in
+      let past : length next ≤ m + 1 = omega (arith, length-append os (u ∷ [])) in
+      let same : m + k ≡ i = omega arith in
+      let r = rows-added tupleShape a a (rowsFrom tupleSize a i) (m + k) 1 (take m os ++ rs) (u ∷ []) (h .front) (parted-row h u is) (rw same (sym (over-own a (i * tupleSize) tupleSize))) .0 in
+      let one : m + 1 + k ≡ m + k + 1 = omega arith in
+      let gap : i + 1 - (m + 1 + k) ≡ 0 = omega arith in
+      record {
+        room = omega arith;
+        few = omega (arith, length-append os (u ∷ []));
+        early = λ y. omega arith;
+        front = rw (take-all (m + 1) next past, none, append-nil next, one) (rw (old, none, append-nil os) at r);
+        kept = rw gap (rows-none tupleShape b (drop (m + 1) next) (drop-of-length-le next past));
+        back = later h;
+      }
 
-module _ (t : Template) (to : ℕ) (p b : List ℕ) (n h i : ℕ) (s : Section p n) (k : i < n) (f : FirstRows tupleShape b h (relocated t to (take i (tuplesOf p n)))) where
-  pub gather-no : selected (templateIs t) (tupleAt p i) ≡ false → FirstRows tupleShape b h (relocated t to (take (i + 1) (tuplesOf p n)))
-  unfolding relocated
-  gather-no e = rw (read-take p n i k, keep-no (selected (templateIs t)) (take i (tuplesOf p n)) (tupleAt p i) e) f
+  module _ {c : List ℕ} (some : k ≡ 0 → ⊥) (stored : c ≡ rowsOver tupleSize b (i - (m + k)) (rowsFrom tupleSize a i) 1) where
+    -- it is held
+    pub keeps-held : Keeps a b a c m k i m
+    keeps-held p os rs u h is =
+        let r = rows-added tupleShape b c (rowsFrom tupleSize a i) (i - (m + k)) 1 (drop m os) (u ∷ []) (h .kept) (parted-row h u is) stored .0 in
+        let below = h .room in
+        let one : i - (m + k) + 1 ≡ i + 1 - (m + k) = omega arith in
+        record {
+          room = omega arith;
+          few = omega (arith, h .few, length-append os (u ∷ []));
+          early = λ z. absurd (some z);
+          front = rw (take-append-le m os (u ∷ []) (h .few)) (h .front);
+          kept = rw (drop-append-le m os (u ∷ []) (h .few)) (rw one at r);
+          back = later h;
+        }
 
-  pub gather-yes : (c : List ℕ) → HasRows tupleSize b (h + 1) → selected (templateIs t) (tupleAt p i) ≡ true
-      → c ≡ rowsOver tupleSize b h (withSpace to (rowsFrom tupleSize p i)) 1 → FirstRows tupleShape c (h + 1) (relocated t to (take (i + 1) (tuplesOf p n)))
-  unfolding relocated
-  gather-yes c room e stored =
-      let ts : List Tuple = take i (tuplesOf p n) in
-      let d : List ℕ = rowsFrom tupleSize p i in
-      let x : List ℕ = bigEndian spaceWidth to in
-      let w : length x ≡ spaceWidth = bigEndian-length spaceWidth to in
-      let l : length p ≡ tuplesSize = holds-length tupleShape p n (tuplesOf p n) s in
-      let most : n ≤ mostTuples = s .few in
-      let long : tupleSize ≤ length d = simp length-drop (omega arith) in
-      let kept : length (over d 0 x spaceWidth) ≡ length d = over-length d 0 x spaceWidth (omega arith) (omega arith) in
-      let is : take tupleSize d ≡ entryBytes (tupleAt p i) = unfold entryAt in entry-is p n i s k in
-      let new : take tupleSize (over d 0 x spaceWidth) ≡ entryBytes (inSpace to (tupleAt p i)) =
-      take-over-past d 0 x spaceWidth (omega arith) (omega arith) tupleSize (omega arith) long ∙ ap (λ (r : List ℕ). over r 0 x spaceWidth) is ∙ space-set (tupleAt p i) to in
-      rw (read-take p n i k, keep-yes (selected (templateIs t)) ts (tupleAt p i) e, map-append (inSpace to) (keep (selected (templateIs t)) ts) (tupleAt p i ∷ []))
-      (rows-one-more tupleShape b c (over d 0 x spaceWidth) h (relocated t to ts) (inSpace to (tupleAt p i)) f room (omega arith) new stored)
+    -- and all that are held are put in
+    pub keeps-put-in : (x : ℕ) (d : List ℕ) → m + x + k ≡ i + 1 → HasRows tupleSize a (i + 1) → d ≡ rowsOver tupleSize (rowsOver tupleSize a (m + x) (rowsFrom tupleSize a m) k) m c x → Keeps a b d c m k i (m + x)
+    keeps-put-in x d all room put p os rs u h is = parted-put-in (keeps-held p os rs u h is) x d all room put
 
-pub gather-all : (t : Template) (to : ℕ) (p b : List ℕ) (n h i : ℕ) → n ≤ i → FirstRows tupleShape b h (relocated t to (take i (tuplesOf p n))) → FirstRows tupleShape b h (relocated t to (tuplesOf p n))
-gather-all t to p b n h i past f =
-    let all : take i (tuplesOf p n) ≡ tuplesOf p n = let l = items-length tupleShape p n in take-all i (tuplesOf p n) (omega arith) in
-    subst (λ (ts : List Tuple). FirstRows tupleShape b h (relocated t to ts)) all f
+-- ---- the pass
 
--- ---- put together
+abbrev pub Moving : (t : Template) (to : ℕ) (p : List ℕ) (n : ℕ) (a b : List ℕ) (m k i : ℕ) → Type 0
+Moving t to p n a b m k i = Parted p a b m k i (others t (take i (tuplesOf p n))) (relocated t to (take i (tuplesOf p n)))
 
-relocated-legal : (t : Template) (to : ℕ) (ts : List Tuple) → to < spaceNumbers → Each Legal ts → Each Legal (relocated t to ts)
-unfolding relocated inSpace legalTuple
-relocated-legal t to ts h l = each-map Legal (inSpace to) (keep (selected (templateIs t)) ts) (λ u m. (l u (keep-in (selected (templateIs t)) ts u m) .0, h))
+pub moving-start : (t : Template) (to : ℕ) (p b : List ℕ) (n : ℕ) → Moving t to p n p b 0 0 0
+unfolding others relocated keep
+moving-start t to p b n = record { room = omega arith; few = omega arith; early = λ z. refl; front = rows-none tupleShape p [] refl; kept = rows-none tupleShape b [] refl; back = refl }
 
--- how many there are
-relocated-length : (t : Template) (to : ℕ) (ts : List Tuple) → length (others t ts) + length (relocated t to ts) ≡ length ts
-unfolding others relocated
-relocated-length t to ts = rw (length-map (keep (selected (templateIs t)) ts) (inSpace to)) (keep-length (selected (templateIs t)) ts)
+module _ (t : Template) (to : ℕ) {p : List ℕ} {n : ℕ} (s : Section p n) {a b : List ℕ} {m k i : ℕ} (h : Moving t to p n a b m k i) where
+  pub moving-yes : (c : List ℕ) → i < n → HasRows tupleSize a (i + 1) → selected (templateIs t) (tupleAt a i) ≡ true → c ≡ rowsOver tupleSize a (m + k) (withSpace to (rowsFrom tupleSize a i)) 1
+      → Moving t to p n c b m (k + 1) (i + 1)
+  moving-yes c below room e stored =
+      let y = tested t p a i true (parted-entry h) e in
+      rw (others-no t to p n i below y, relocated-yes t to p n i below y) (parted-moved h (tupleAt p i) to c (entry-is p n i s below) room stored)
 
-pub moved-count : (t : Template) (to : ℕ) (p a b : List ℕ) (n m h : ℕ) → Holds a m (others t (tuplesOf p n)) → FirstRows tupleShape b h (relocated t to (tuplesOf p n)) → m + h ≡ n
-moved-count t to p a b n m h o f = omega (arith, holds-count tupleShape a m (others t (tuplesOf p n)) o, f .count, relocated-length t to (tuplesOf p n), items-length tupleShape p n)
+  pub moving-no : (c d : List ℕ) (r : ℕ) → i < n → selected (templateIs t) (tupleAt a i) ≡ false → Keeps a b c d m k i r → Moving t to p n c d r k (i + 1)
+  moving-no c d r below e keeps =
+      let y = tested t p a i false (parted-entry h) e in
+      rw (others-yes t to p n i below y, relocated-no t to p n i below y) (keeps p _ _ (tupleAt p i) h (entry-is p n i s below))
 
--- move
-pub moved-is : (t : Template) (to : ℕ) (p a q b : List ℕ) (n m h : ℕ) → Section p n → to < spaceNumbers → Holds a m (others t (tuplesOf p n)) → FirstRows tupleShape b h (relocated t to (tuplesOf p n))
-    → q ≡ rowsOver tupleSize a m b h → Holds q n (moved (selected (templateIs t)) to (tuplesOf p n))
-unfolding moved others relocated
-moved-is t to p a q b n m h s small o f stored =
-    let e : m + h ≡ n = moved-count t to p a b n m h o f in
-    rw e at (holds-added tupleShape a q b m h (others t (tuplesOf p n)) (relocated t to (tuplesOf p n)) o (omega (arith, s .few)) (relocated-legal t to (tuplesOf p n) small (s .lawful)) f stored)
-
--- copy
-module _ (t : Template) (to : ℕ) (p b : List ℕ) (n h : ℕ) (s : Section p n) (small : to < spaceNumbers) (f : FirstRows tupleShape b h (relocated t to (tuplesOf p n))) where
-  pub copied-full : mostTuples - n < h → Copies Full p p n (relocated t to (tuplesOf p n))
-  copied-full k = (omega (arith, f .count, s .few), refl)
-
-  pub copied-now : (q : List ℕ) → h ≤ mostTuples - n → q ≡ rowsOver tupleSize p n b h → Copies (Now (n + h)) p q n (relocated t to (tuplesOf p n))
-  copied-now q k stored =
-      (omega (arith, f .count), holds-added tupleShape p q b n h (tuplesOf p n) (relocated t to (tuplesOf p n)) s (omega (arith, s .few)) (relocated-legal t to (tuplesOf p n) small (s .lawful)) f stored)
+  pub moving-end : (d : List ℕ) → to < spaceNumbers → n ≤ i → i ≤ n → length a ≡ length p → d ≡ rowsOver tupleSize (rowsOver tupleSize a (m + (n - (m + k))) (rowsFrom tupleSize a m) k) m b (n - (m + k))
+      → Holds d n (moved (selected (templateIs t)) to (tuplesOf p n))
+  unfolding moved others relocated
+  moving-end d small past upto long stored =
+      let ts : List Tuple = tuplesOf p n in
+      let l = items-length tupleShape p n in
+      let e : i ≡ n = omega arith in
+      let all : take i ts ≡ ts = take-all i ts (omega arith) in
+      let last : Parted p a b m k n (others t ts) (relocated t to ts) = rw (all, e) at h in
+      let below = last .room in
+      let x : ℕ = n - (m + k) in
+      let sum : m + x + k ≡ n = omega arith in
+      parted-all (parted-put-in last x d sum (omega (arith, holds-length tupleShape p n ts s, s .few)) stored) sum s (others-legal t ts (s .lawful)) (relocated-legal t to ts small (s .lawful))

@@ -18,7 +18,7 @@ pub use Rattle.basis.specs.NumberLaws.{bytes-of}
 use Rattle.words.specs.Over.{over, zerosAt}
 use Rattle.words.specs.OverLaws.{over-mid, over-append}
 use Rattle.words.specs.ZeroLaws.{zerosAt→zeros, zeros→zerosAt}
-use Rattle.sections.specs.Rows.{joined, Wides, Rows, Section, HasRows, unusedZero}
+use Rattle.sections.specs.Rows.{joined, Wides, Rows, Section, HasRows, rowsFrom, unusedZero}
 
 -- ---- products with a size that is any
 
@@ -46,6 +46,13 @@ cuts size n i h = record {
 -- a row that is in use lies within the bytes
 pub row-room : (size n i whole : ℕ) → n * size ≤ whole → i < n → i * size + size ≤ whole
 row-room size n i whole h k = let m : (i + 1) * size ≤ n * size = mul-le-mul-right size (omega arith) in omega (arith, after i size)
+
+-- bytes that are alike from row i on are so from a later one on
+pub rows-further : (size i j : ℕ) (p q : List ℕ) → i ≤ j → rowsFrom size p i ≡ rowsFrom size q i → rowsFrom size p j ≡ rowsFrom size q j
+rows-further size i j p q h e = later p ∙ ap (drop ((j - i) * size)) e ∙ sym (later q)
+  where
+    later : (l : List ℕ) → rowsFrom size l j ≡ drop ((j - i) * size) (rowsFrom size l i)
+    later l = ap (λ (k : ℕ). drop k l) (split-rows i j size h) ∙ sym (drop-drop ((j - i) * size) (i * size) l)
 
 -- ---- joined
 

@@ -38,10 +38,10 @@ pub fn move_down(a: &mut [u8], to: usize, from: usize, n: usize)
     }
 }
 
-// The same of one row, by way of a copy: where n is a constant, the compiler then moves it in few steps also where n is odd. A row that stands
-// where it goes is left.
+// The n bytes of a row, those from index from on, moved to any index, by way of a copy: where n is a constant, the compiler then moves them in few
+// steps also where n is odd. A row that stands where it goes is left.
 pub fn move_row(a: &mut [u8], to: usize, from: usize, n: usize)
-    requires { ⌜ (to ≤ from) × (from + n ≤ length (now a)) × (n ≤ mostRow) ⌝ }
+    requires { ⌜ (to + n ≤ length (now a)) × (from + n ≤ length (now a)) × (n ≤ mostRow) ⌝ }
     ensures { λ _. ⌜ now (a .exit) ≡ over (now (a .entry)) to (drop from (now (a .entry))) n ⌝ }
 {
     if to == from {

@@ -1,71 +1,132 @@
 -- `moves::copy_all` meets its contract. Assumes nothing.
+use mathlib.Core.Path.{_≡_, refl, sym, _∙_}
+use Prim.Native.Nat.{_+_, _-_, _≤_}
 use native.Mathlib.Omega.{arith}
+use lib.ListN.{length}
+use Rattle.basis.specs.Sizes.{tupleSize}
+use Rattle.sections.specs.Rows.{HasRows}
 use Rattle.sections.specs.Shapes.{holds-length}
 use Rattle.tuples.specs.Section.{tupleShape}
-use Rattle.moves.specs.MoveLaws.{copied-full, copied-now}
+use Rattle.moves.specs.CopyLaws.{Copying, copying-start, copying-few, copying-yes, copying-no, copying-full, copying-end}
 use borrow.Author.Needs.{needs}
 use Rattle.moves.proofs.copy_all.Statement.{statement}
 use Rattle.moves.proofs.copy_all.Tie as tie
 
-module _ (c : tie.After-gather) where
-  abbrev start : tie.Start
-  start = c .before .before .before .before
+abbrev Inv-loop : tie.InvT-loop
+Inv-loop tuples₀ n template to m₀ i₀ tuples m i = (i ≤ n) × (length tuples ≡ length tuples₀) × Copying template to tuples₀ n tuples m i
 
-slice-aggregate-gather : tie.Need-slice-aggregate-gather
-slice-aggregate-gather c = search needs
+abbrev μ-loop : tie.MeasureT-loop
+μ-loop tuples₀ n template to m₀ i₀ tuples m i = n - i
 
-gather-requires : tie.Need-gather-requires
-gather-requires c κs = search needs
+module _ (l : tie.At-loop Inv-loop μ-loop) where
+  abbrev start : tie.Start Inv-loop μ-loop
+  start = l .before .before
 
-sub-if1 : tie.Need-sub-if1
-sub-if1 c = search needs
+module _ (c : tie.In-loop Inv-loop μ-loop) where
+  -- the row at index i is in use
+  row : HasRows tupleSize (c .before .loop .tuples) (c .before .loop .i + 1)
+  row = let s = start (c .before) in omega (arith, s .pre .0 .few, holds-length tupleShape _ _ _ (s .pre .0), c .before .loop .inv .1, c .loop-test .taken)
 
-same-length : tie.Need-same-length
-same-length c = search needs
+loop-holds : tie.Need-loop-holds Inv-loop μ-loop
+loop-holds c = (omega arith, refl, copying-start _ _ (c .before .pre .0))
 
-returns : tie.Need-returns
+selected-requires : tie.Need-selected-requires Inv-loop μ-loop
+selected-requires c κs = (row (c .before), start (c .before .before) .pre .1)
+
+clear-rows-requires : tie.Need-clear-rows-requires Inv-loop μ-loop
+clear-rows-requires c κs =
+    let l = c .before .before .before .before .before .before in
+    let s = start l in
+    (omega (arith, copying-few (s .args .template) (s .args .to) (s .pre .0) (l .loop .i) (l .loop .inv .2)), omega (arith, l .loop .inv .2 .few, holds-length tupleShape _ _ _ (l .loop .inv .2)))
+
+same-length : tie.Need-same-length Inv-loop μ-loop
+same-length c = let cleared = c .before .before in cleared .clear-rows .kept .0 ∙ cleared .before .before .before .before .before .before .before .loop .inv .1
+
+returns : tie.Need-returns Inv-loop μ-loop
 returns c =
-    let gathered = c .before .before in
-    let s = start gathered in
-    let a = s .args in
-    copied-full (a .template) (a .to) (a .tuples .now) _ (a .n) _ (s .pre .0) (s .pre .2) (gathered .gather .ensures) (c .if1 .taken)
+    let cleared = c .before .before in
+    let full = cleared .before .before in
+    let call = full .before .before in
+    let turn = call .before .before in
+    let l = turn .before in
+    let s = start l in
+    copying-full _ _ (s .pre .0) _ (l .loop .inv .2) (turn .loop-test .taken) (sym (call .selected .ensures) ∙ full .before .if1 .taken) _
+    (full .if2 .taken) (cleared .clear-rows .ensures)
 
-slice-aggregate-copy-rows : tie.Need-slice-aggregate-copy-rows
-slice-aggregate-copy-rows c = search needs
+relocate-requires : tie.Need-relocate-requires Inv-loop μ-loop
+relocate-requires c κs =
+    let room = c .before in
+    let turn = room .before .before .before .before in
+    (omega (arith, room .if2 .left, holds-length tupleShape _ _ _ (turn .before .loop .inv .2)), row turn)
 
-copy-rows-requires : tie.Need-copy-rows-requires
-copy-rows-requires c κs =
-    let room = c .before .before in
-    let gathered = room .before .before in
-    let s = start gathered in
-    (omega (arith, s .pre .0 .few, room .if1 .left, holds-length tupleShape _ _ _ (s .pre .0)), omega (arith, s .pre .0 .few, room .if1 .left, gathered .gather .kept .0))
+add-m : tie.Need-add-m Inv-loop μ-loop
+add-m c = search needs
 
-add-t11 : tie.Need-add-t11
-add-t11 c = search needs
+add-i : tie.Need-add-i Inv-loop μ-loop
+add-i c = search needs
 
-same-length-2 : tie.Need-same-length-2
-same-length-2 c = search needs
+loop-less : tie.Need-loop-less Inv-loop μ-loop
+loop-less c = search needs
 
-returns-2 : tie.Need-returns-2
+loop-again : tie.Need-loop-again Inv-loop μ-loop
+loop-again c =
+    let put = c .before .before in
+    let room = put .before .before in
+    let yes = room .before in
+    let call = yes .before in
+    let turn = call .before .before in
+    let l = turn .before in
+    let s = start l in (
+      omega arith,
+      put .relocate .kept .0 ∙ l .loop .inv .1,
+      copying-yes _ _ (s .pre .0) _ (l .loop .inv .2) (turn .loop-test .taken) (sym (call .selected .ensures) ∙ yes .if1 .taken) _
+          (s .pre .2) (omega (arith, room .if2 .left)) (put .relocate .ensures),
+    )
+
+add-i-2 : tie.Need-add-i-2 Inv-loop μ-loop
+add-i-2 c = search needs
+
+loop-less-2 : tie.Need-loop-less-2 Inv-loop μ-loop
+loop-less-2 c = search needs
+
+loop-again-2 : tie.Need-loop-again-2 Inv-loop μ-loop
+loop-again-2 c =
+    let call = c .before in
+    let turn = call .before .before in
+    let l = turn .before in
+    let s = start l in (
+      omega arith,
+      l .loop .inv .1,
+      copying-no _ _ (s .pre .0) _ (l .loop .inv .2) (turn .loop-test .taken) (sym (call .selected .ensures) ∙ c .if1 .left),
+    )
+
+same-length-2 : tie.Need-same-length-2 Inv-loop μ-loop
+same-length-2 c = c .before .loop .inv .1
+
+returns-2 : tie.Need-returns-2 Inv-loop μ-loop
 returns-2 c =
-    let copied = c .before .before in
-    let room = copied .before .before .before in
-    let gathered = room .before .before in
-    let s = start gathered in
-    let a = s .args in
-    copied-now (a .template) (a .to) (a .tuples .now) _ (a .n) _ (s .pre .0) (s .pre .2) (gathered .gather .ensures) _ (room .if1 .left) (copied .copy-rows .ensures)
+    let l = c .before in
+    let s = start l in
+    copying-end _ _ (s .pre .0) _ (l .loop .inv .2) (c .loop-test .left)
 
 pub copy-all-spec : {M : Type 1} → statement M
 copy-all-spec =
     tie.close
     (tie.spec
-    slice-aggregate-gather
-    gather-requires
-    sub-if1
+    Inv-loop
+    μ-loop
+    loop-holds
+    selected-requires
+    clear-rows-requires
     same-length
     returns
-    slice-aggregate-copy-rows
-    copy-rows-requires
-    add-t11
+    relocate-requires
+    add-m
+    add-i
+    loop-less
+    loop-again
+    add-i-2
+    loop-less-2
+    loop-again-2
     same-length-2
     returns-2)

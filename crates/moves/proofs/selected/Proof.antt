@@ -1,7 +1,7 @@
 -- `moves::selected` meets its contract. Assumes nothing.
 use mathlib.Core.Path.{_∙_}
 use Rattle.tuples.specs.Section.{tupleAt}
-use Rattle.moves.specs.MoveLaws.{selected-space, selected-match}
+use Rattle.moves.specs.SelectedLaws.{selected-space, selected-match}
 use borrow.Author.Needs.{needs}
 use Rattle.moves.proofs.selected.Statement.{statement}
 use Rattle.moves.proofs.selected.Tie as tie
