@@ -1,3 +1,1 @@
-pub mod Placed
-pub mod Branches
 pub mod Searching

@@ -3,34 +3,38 @@ use mathlib.Core.Path.{_≡_, refl, sym, ap, subst, _∙_}
 use Prim.Native.Nat.{ℕ, zero, suc, _+_, _-_, _≤_, _<_}
 use native.Mathlib.Omega.{arith}
 use native.Mathlib.Numerals.{add-one}
-use mathlib.Core.Bool.{Bool, true, false, not}
-use mathlib.Core.Option.{Option, none, some}
+use mathlib.Core.Bool.{Bool, true, false}
+use mathlib.Core.Option.{Option, none, some, Option·none-ne-some}
 use mathlib.Core.List.{List, [], _∷_}
 use mathlib.Core.Logic.{_⊎_, inl, inr}
-use lib.ListN.{length, drop, getD, drop-of-length-le}
-use lib.Dec.{T, eqb}
-use borrow.Author.Tests.{ne-eqb}
+use lib.ListN.{drop, getD}
+use lib.Dec.{T}
 use Rattle.basis.specs.Choice.{maybe, isSome}
+use Rattle.basis.specs.Logic.{and-l}
 use Rattle.basis.specs.ListLaws.{first-any}
-use Rattle.basis.specs.Lists.{any, Found, firstFrom, first}
+use Rattle.basis.specs.Lists.{all, any, Found, firstFrom, first}
 use Rattle.basis.specs.Sizes.{countWidth, branchCountAt, branchesAt}
 use Rattle.model.specs.Statement as Model
 use Rattle.model.specs.Statement.{always, lookup, deposit, transfer, Branch, Statement}
-use Rattle.model.specs.Reading.{give, several, branch}
-use Rattle.model.specs.Legal.{isGuard, legalBranch}
-use Rattle.model.specs.Matching.{Tuple, unbound, template, isMatch, matches}
-use Rattle.model.specs.Execution.{holds, guardHolds, ready, chosen, isBlocking, canWait}
+use Rattle.model.specs.Reading.{several, operation, branch}
+use Rattle.model.specs.Legal.{isGuard, legalBranch, legalBody}
+use Rattle.model.specs.Matching.{Tuple, unbound, template, isMatch, matches, oldest}
+use Rattle.model.specs.Execution.{sought, holds, guardHolds, ready, chosen, isBlocking, canWait}
+use Rattle.layout.specs.Stored.{statementOf}
+use Rattle.statements.specs.declared.Bare.{Bare}
 use Rattle.statements.specs.declared.Operation.{Operation}
 use Rattle.statements.specs.declared.OperationRead.{OperationRead}
-use Rattle.statements.specs.Flat.{operationOf, operationIs, Reads, operationAt}
+use Rattle.statements.specs.At.{position}
+use Rattle.statements.specs.Ends.{endAt}
+use Rattle.statements.specs.Flat.{operationOf, operationIs, fewFields, bare}
+use Rattle.tuples.specs.Section.{tupleAt, tuplesOf}
 use Rattle.matching.specs.declared.Template.{Template}
-use Rattle.sections.specs.Shapes.{items-length}
-use Rattle.tuples.specs.Section.{tupleShape, tupleAt, tuplesOf}
-use Rattle.tuples.specs.SectionLaws.{read-drop}
-use Rattle.matching.specs.Meaning.{templateIs}
+use Rattle.matching.specs.Meaning.{templateIs, foundIs}
+use Rattle.matching.specs.SearchLaws.{searched, search-hit, search-end}
 use Rattle.bindings.specs.Fields.{fieldsIn}
-use Rattle.layout.specs.Stored.{statementOf}
-use Rattle.guards.specs.Branches.{branchesFrom, Branches, next-branch, leftAt, Body}
+use Rattle.walk.specs.Standing.{no-items}
+use Rattle.walk.specs.Walk.{Branches, branchesFrom, NextBranch, ReadBranch, PassedBranch, operations-past, stop-is, body-is, body-branches}
+use Rattle.walk.specs.Choosing.{Chosen, Finds, is-true, finds, Chooses, nothing, chosen-at}
 
 -- ---- a guard
 
@@ -39,99 +43,221 @@ pub guard-true : (o : Operation) (ts : List Tuple) → o .code ≡ 0 → holds t
 unfolding operationIs operationOf holds
 guard-true o ts e = rw e
 
--- the others hold where their template matches a tuple
-pub guard-template : (o : Operation) (ts : List Tuple) (t : Template) → T (isGuard (operationIs o)) → (o .code ≡ 0 → ⊥) → templateIs t ≡ template unbound (o .from) (fieldsIn o) → holds ts (operationIs o) ≡ any (isMatch (templateIs t)) ts
-unfolding operationIs operationOf holds isGuard
-guard-template o ts t g z a = go (o .code) refl g z
-  where
-    those : any (matches unbound (o .from) (fieldsIn o)) ts ≡ any (isMatch (templateIs t)) ts
-    those = rw a
+-- and looks for no tuple
+pub true-finds : (o : Operation) (ts : List Tuple) (j : ℕ) → o .code ≡ 0 → Finds ts (operationIs o) j
+unfolding operationIs operationOf
+true-finds o ts j e = rw e is-true
 
-    go : (n : ℕ) → o .code ≡ n → T (isGuard (operationOf n (o .from) (o .to) (fieldsIn o))) → (n ≡ 0 → ⊥) → holds ts (operationIs o) ≡ any (isMatch (templateIs t)) ts
+-- the others look for a tuple by their fields
+guard-lookup : (o : Operation) → T (isGuard (operationIs o)) → (o .code ≡ 0 → ⊥) → (withdraws : Bool) × (blocks : Bool) × (operationIs o ≡ lookup withdraws blocks (o .from) (fieldsIn o))
+unfolding operationIs operationOf isGuard
+guard-lookup o g z = go (o .code) refl g z
+  where
+    go : (n : ℕ) → o .code ≡ n → T (isGuard (operationOf n (o .from) (o .to) (fieldsIn o))) → (n ≡ 0 → ⊥) → (withdraws : Bool) × (blocks : Bool) × (operationIs o ≡ lookup withdraws blocks (o .from) (fieldsIn o))
     go zero q g z = absurd (z refl)
-    go (suc zero) q g z = rw q those
-    go (suc (suc zero)) q g z = rw q those
-    go (suc (suc (suc zero))) q g z = rw q those
-    go (suc (suc (suc (suc zero)))) q g z = rw q those
+    go (suc zero) q g z = (true, true, rw q)
+    go (suc (suc zero)) q g z = (true, false, rw q)
+    go (suc (suc (suc zero))) q g z = (false, true, rw q)
+    go (suc (suc (suc (suc zero)))) q g z = (false, false, rw q)
     go (suc (suc (suc (suc (suc zero))))) q g z = absurd g
     go (suc (suc (suc (suc (suc (suc zero)))))) q g z = absurd g
     go (suc (suc (suc (suc (suc (suc (suc n))))))) q g z = absurd g
 
--- ---- the tuples, from one on
+module _ (o : Operation) (ts : List Tuple) (t : Template) (g : T (isGuard (operationIs o))) (z : o .code ≡ 0 → ⊥) (a : templateIs t ≡ template unbound (o .from) (fieldsIn o)) where
+  -- they hold where their template matches a tuple
+  pub guard-template : holds ts (operationIs o) ≡ any (isMatch (templateIs t)) ts
+  unfolding holds
+  guard-template = rw (guard-lookup o g z .2, a)
 
-pub any-hit : (t : Template) (p : List ℕ) (n j : ℕ) → j < n → isMatch (templateIs t) (tupleAt p j) ≡ true → any (isMatch (templateIs t)) (drop j (tuplesOf p n)) ≡ true
-unfolding any
-any-hit t p n j h e = rw (read-drop p n j h, e)
+  -- and find the first that it matches
+  pub guard-sought : sought (operationIs o) unbound ts ≡ first (isMatch (templateIs t)) ts
+  unfolding oldest
+  guard-sought = rw (guard-lookup o g z .2, a)
 
-pub any-miss : (t : Template) (p : List ℕ) (n j : ℕ) → j < n → isMatch (templateIs t) (tupleAt p j) ≡ false → any (isMatch (templateIs t)) (drop j (tuplesOf p n)) ≡ any (isMatch (templateIs t)) (drop (j + 1) (tuplesOf p n))
-unfolding any
-any-miss t p n j h e = rw (read-drop p n j h, e)
+-- what finds a tuple, or is true, holds
+finds-holds : (ts : List Tuple) (o : Model.Operation) (j : ℕ) → Finds ts o j → holds ts o ≡ true
+unfolding holds
+finds-holds ts o j is-true = refl
+finds-holds ts guard index (finds {o} {j} {t} e) = go o e
+  where
+    go : (o : Model.Operation) → sought o unbound ts ≡ some (record { index = j; item = t }) → holds ts o ≡ true
+    go always e = refl
+    go (lookup withdraws blocks s fs) e = unfold oldest isSome in sym (first-any (matches unbound s fs) ts) ∙ ap isSome e
+    go (deposit s fs) e = absurd (Option·none-ne-some _ e)
+    go (transfer withdraws from to fs) e = absurd (Option·none-ne-some _ e)
 
-pub any-end : (t : Template) (p : List ℕ) (n j : ℕ) → n ≤ j → any (isMatch (templateIs t)) (drop j (tuplesOf p n)) ≡ false
-unfolding any
-any-end t p n j h = let past : length (tuplesOf p n) ≤ j = omega (arith, items-length tupleShape p n) in rw (drop-of-length-le (tuplesOf p n) past)
+-- none of the first j of n tuples matches: the search goes on from there
+abbrev pub Unmatched : (t : Template) (tuples : List ℕ) (n j : ℕ) → Type 0
+Unmatched t p n j = first (isMatch (templateIs t)) (tuplesOf p n) ≡ searched (isMatch (templateIs t)) p n j
+
+module _ (o : Operation) (p : List ℕ) (n : ℕ) (t : Template) (g : T (isGuard (operationIs o))) (z : o .code ≡ 0 → ⊥) (a : templateIs t ≡ template unbound (o .from) (fieldsIn o)) (j : ℕ) (h : Unmatched t p n j) where
+  -- the next one does: it is found
+  pub guard-finds : j < n → isMatch (templateIs t) (tupleAt p j) ≡ true → Finds (tuplesOf p n) (operationIs o) j
+  unfolding foundIs
+  guard-finds l e = finds (guard-sought o (tuplesOf p n) t g z a ∙ h ∙ sym (search-hit (isMatch (templateIs t)) p n j l e))
+
+  -- there is no other: the guard does not hold
+  pub guard-fails : n ≤ j → holds (tuplesOf p n) (operationIs o) ≡ false
+  unfolding foundIs isSome
+  guard-fails l = guard-template o (tuplesOf p n) t g z a ∙ sym (first-any (isMatch (templateIs t)) (tuplesOf p n)) ∙ ap isSome (h ∙ sym (search-end (isMatch (templateIs t)) p n j l))
 
 -- ---- the branches, from one on
 
--- a branch that stands at a position
-pub record Chosen (b : List ℕ) (at : ℕ) (br : Branch) : Type 0 where
-  pub rest : List ℕ
-  pub reads : branch (drop at b) ≡ some (br, rest)
-  pub legal : T (legalBranch br)
+-- x is what is said of all branches, and g says it of those that stand ahead
+pub record Ahead {B : Type 0} (x : B) (g : List Branch → B) (b : List ℕ) (at count : ℕ) : Type 0 where
+  pub stand : Branches b at count
+  pub same : x ≡ g (branchesFrom b at count)
 
--- the choice as the code tells it: 0, or the branch's number from 1 and its position
-pub data Chooses (b : List ℕ) (o : Option (Found Branch)) : (number at : ℕ) → Type 0 where
-  nothing : {at : ℕ} → o ≡ none → Chooses b o 0 at
-  chosen-at : {i at : ℕ} {br : Branch} → o ≡ some (record { index = i; item = br }) → Chosen b at br → Chooses b o (i + 1) at
+pub ahead-first : {B : Type 0} (x : B) (g : List Branch → B) (b : List ℕ) → T (legalBody b) → x ≡ g ((statementOf b) .branches) → Ahead x g b branchesAt (getD b branchCountAt 0 - 0)
+ahead-first x g b t e =
+    let n : getD b branchCountAt 0 - 0 ≡ getD b branchCountAt 0 = omega arith in
+    let h = body-branches b (statementOf b) (body-is b t) in
+    rw n (record { stand = h .stands; same = e ∙ ap g (sym (h .items)) })
 
--- the branches from number i on stand ahead, and the choice is the one among them
-pub record Seeking (b : List ℕ) (ts : List Tuple) (o : Option (Found Branch)) (i at count : ℕ) : Type 0 where
-  pub ahead : Branches b at count
-  pub same : o ≡ firstFrom (guardHolds ts) i (branchesFrom b at count)
+-- the position after the body of a branch, as the code finds it, is where the others stand
+pub body-past : (b : List ℕ) (at others end : ℕ) (h : NextBranch b at others end) (count next : ℕ) → count ≡ getD b end 0 → position next ≡ endAt (several operation count) (all fewFields) b (end + countWidth) → next ≡ h .stop
+body-past b at others end h count next c e =
+    let k = operations-past b (end + countWidth) (getD b end 0) next (h .body) (rw c at e) in
+    stop-is b at others end next h (k .1) (k .0)
 
-pub seek-first : (b : List ℕ) (ts : List Tuple) → Body b → Seeking b ts (chosen ts (statementOf b)) 0 branchesAt (getD b branchCountAt 0 - 0)
-unfolding chosen first
-seek-first b ts h = let e : getD b branchCountAt 0 - 0 ≡ getD b branchCountAt 0 = omega arith in rw e (record { ahead = h .branches; same = ap (firstFrom (guardHolds ts) 0) (sym (h .same)) })
+module _ {B : Type 0} (x : B) (g : List Branch → B) (b : List ℕ) (at count : ℕ) (h : Ahead x g b at count) where
+  pub ahead-end : count ≡ 0 → x ≡ g []
+  ahead-end z = h .same ∙ rw (z, no-items branch b at)
 
-module _ (b : List ℕ) (ts : List Tuple) (o : Option (Found Branch)) (i at count : ℕ) (h : Seeking b ts o i at count) where
-  pub seek-end : count ≡ 0 → (n : ℕ) → n ≡ 0 → Chooses b o n at
-  unfolding branchesFrom several firstFrom give
-  seek-end z n e =
-      let none-left : o ≡ none = h .same ∙ ap (λ (k : ℕ). firstFrom (guardHolds ts) i (branchesFrom b at k)) z in
-      rw e (nothing none-left)
+  module _ (others : ℕ) (s : count ≡ suc others) where
+    pub ahead-stand : Branches b at (suc others)
+    ahead-stand = subst (Branches b at) s (h .stand)
 
-  module _ (m : ℕ) (s : count ≡ suc m) (r : OperationRead) (e : Reads r (operationAt b at)) where
-    to-come : Branches b at (suc m)
-    to-come = subst (Branches b at) s (h .ahead)
+    module _ (end : ℕ) (n : NextBranch b at others end) where
+      pub ahead-here : x ≡ g (n .first ∷ branchesFrom b (n .stop) others)
+      ahead-here = h .same ∙ rw s (ap g (n .items))
 
-    whole : o ≡ firstFrom (guardHolds ts) i (next-branch b at m to-come r e .first ∷ next-branch b at m to-come r e .later)
-    whole = h .same ∙ ap (λ (k : ℕ). firstFrom (guardHolds ts) i (branchesFrom b at k)) s ∙ ap (firstFrom (guardHolds ts) i) (next-branch b at m to-come r e .all)
+      -- this one is passed
+      pub ahead-next : (f : List Branch → B) → ((l : List Branch) → g (n .first ∷ l) ≡ f l) → (next : ℕ) → next ≡ n .stop → Ahead x f b next others
+      ahead-next f e next q = rw q (record { stand = n .later; same = ahead-here ∙ e (branchesFrom b (n .stop) others) })
 
-    -- its guard holds
-    pub seek-found : holds ts (operationIs (r .operation)) ≡ true → Chooses b o (i + 1) at
-    unfolding firstFrom guardHolds
-    seek-found g =
-        let n = next-branch b at m to-come r e in
-        let t : holds ts (n .first .guard) ≡ true = ap (holds ts) (sym (n .guard)) ∙ g in
-        let w : o ≡ some (record { index = i; item = n .first }) = whole ∙ rw t in
-        chosen-at w (record { rest = n .left; reads = n .reads; legal = n .legal })
+-- a guard that was read is one
+pub read-guard : (b : List ℕ) (at others : ℕ) (r : OperationRead) → ReadBranch b at others r → T (isGuard (operationIs (r .operation)))
+unfolding legalBranch
+read-guard b at others r n = let t = n .0 .legal in rw (n .1) (search (and-l, t) depth 6)
 
-    -- its guard does not hold: the others stand after its body
-    pub seek-next : holds ts (operationIs (r .operation)) ≡ false → (next : ℕ) → drop next b ≡ leftAt b (r .end + countWidth) (getD b (r .end) 0) → Seeking b ts o (i + 1) next m
-    unfolding firstFrom guardHolds
-    seek-next g next d =
-        let n = next-branch b at m to-come r e in
-        let t : holds ts (n .first .guard) ≡ false = ap (holds ts) (sym (n .guard)) ∙ g in
-        let y = n .others next d in
-        record { ahead = y .0; same = whole ∙ rw (t, add-one i, y .1) }
+-- ---- which branch is chosen
+
+-- of the branches from number i on
+abbrev pub Seeking : List ℕ → List Tuple → (i at count : ℕ) → Type 0
+Seeking b ts i at count = Ahead (chosen ts (statementOf b)) (firstFrom (guardHolds ts) i) b at count
+
+module _ (b : List ℕ) (ts : List Tuple) where
+  pub seek-first : T (legalBody b) → Seeking b ts 0 branchesAt (getD b branchCountAt 0 - 0)
+  unfolding chosen first
+  seek-first t = ahead-first (chosen ts (statementOf b)) (firstFrom (guardHolds ts) 0) b t refl
+
+  module _ (i at count : ℕ) (h : Seeking b ts i at count) where
+    abbrev choice : Option (Found Branch)
+    choice = chosen ts (statementOf b)
+
+    pub seek-end : count ≡ 0 → (n j : ℕ) → n ≡ 0 → Chooses b ts choice n at j
+    unfolding firstFrom
+    seek-end z n j e = rw e (nothing (ahead-end choice (firstFrom (guardHolds ts) i) b at count h z))
+
+    module _ (others : ℕ) (s : count ≡ suc others) (r : OperationRead) (n : ReadBranch b at others r) where
+      -- its guard finds a tuple or is true
+      pub seek-found : (j : ℕ) → Finds ts (operationIs (r .operation)) j → Chooses b ts choice (i + 1) at j
+      unfolding firstFrom guardHolds
+      seek-found j f =
+          let k = n .0 in
+          let f : Finds ts (k .first .guard) j = subst (λ (o : Model.Operation). Finds ts o j) (n .1) f in
+          let first-is : choice ≡ some (record { index = i; item = k .first }) = ahead-here choice (firstFrom (guardHolds ts) i) b at count h others s (r .end) k ∙ rw (finds-holds ts (k .first .guard) j f) in
+          chosen-at first-is (record { rest = drop (k .stop) b; reads = k .reads; legal = k .legal }) f
+
+      -- it does not
+      pub seek-next : holds ts (operationIs (r .operation)) ≡ false → (next : ℕ) → next ≡ n .0 .stop → Seeking b ts (i + 1) next others
+      unfolding firstFrom guardHolds
+      seek-next f next q =
+          let e : holds ts (n .0 .first .guard) ≡ false = ap (holds ts) (sym (n .1)) ∙ f in
+          ahead-next choice (firstFrom (guardHolds ts) i) b at count h others s (r .end) (n .0) (firstFrom (guardHolds ts) (i + 1)) (λ l. rw (e, add-one i)) next q
 
 -- some guard holds where a branch is chosen
-pub ready-is : (b : List ℕ) (ts : List Tuple) (st : Statement) (number at : ℕ) → Chooses b (chosen ts st) number at → not (eqb number 0) ≡ ready ts st
-unfolding ready chosen isSome
-ready-is b ts st number at (nothing e) = sym (sym (first-any (guardHolds ts) (st .branches)) ∙ ap isSome e)
-ready-is b ts st number at (chosen-at {i} e c) =
-    let z : eqb (i + 1) 0 ≡ false = ne-eqb (i + 1) 0 (λ q. omega arith) in
-    rw z (sym (sym (first-any (guardHolds ts) (st .branches)) ∙ ap isSome e))
+module _ (b : List ℕ) (ts : List Tuple) (st : Statement) (number at tuple : ℕ) (h : Chooses b ts (chosen ts st) number at tuple) where
+  is-ready : (o : Option (Found Branch)) → chosen ts st ≡ o → ready ts st ≡ isSome o
+  unfolding ready chosen
+  is-ready o e = sym (first-any (guardHolds ts) (st .branches)) ∙ ap isSome e
+
+  pub chooses-ready : (number ≡ 0 → ⊥) → ready ts st ≡ true
+  unfolding isSome
+  chooses-ready z = go number refl h
+    where
+      go : (m : ℕ) → number ≡ m → Chooses b ts (chosen ts st) m at tuple → ready ts st ≡ true
+      go m q (nothing e) = absurd (z q)
+      go m q (chosen-at {i} {at} {tuple} {br} e c f) = is-ready (some (record { index = i; item = br })) e
+
+  pub chooses-none : number ≡ 0 → ready ts st ≡ false
+  unfolding isSome
+  chooses-none z = go number z h
+    where
+      go : (m : ℕ) → m ≡ 0 → Chooses b ts (chosen ts st) m at tuple → ready ts st ≡ false
+      go m q (nothing e) = is-ready none e
+      go m q (chosen-at {i} e c f) = absurd (omega (arith, q))
+
+-- ---- whether a statement can wait
+
+-- in and rd block
+pub code-blocks : (r : Bare) → (r .code ≡ 1) ⊎ (r .code ≡ 3) → isBlocking (operationOf (r .code) (r .from) (r .to) []) ≡ true
+unfolding operationOf isBlocking
+code-blocks r (inl e) = rw e
+code-blocks r (inr e) = rw e
+
+-- the others do not
+pub code-passes : (r : Bare) → (r .code ≡ 1 → ⊥) → (r .code ≡ 3 → ⊥) → isBlocking (operationOf (r .code) (r .from) (r .to) []) ≡ false
+unfolding operationOf isBlocking
+code-passes r a b = go (r .code) a b
+  where
+    go : (n : ℕ) → (n ≡ 1 → ⊥) → (n ≡ 3 → ⊥) → isBlocking (operationOf n (r .from) (r .to) []) ≡ false
+    go zero a b = refl
+    go (suc zero) a b = absurd (a refl)
+    go (suc (suc zero)) a b = refl
+    go (suc (suc (suc zero))) a b = absurd (b refl)
+    go (suc (suc (suc (suc zero)))) a b = refl
+    go (suc (suc (suc (suc (suc zero))))) a b = refl
+    go (suc (suc (suc (suc (suc (suc zero)))))) a b = refl
+    go (suc (suc (suc (suc (suc (suc (suc n))))))) a b = refl
+
+-- whatever the fields
+bare-blocks : (o : Model.Operation) → isBlocking (bare o) ≡ isBlocking o
+unfolding bare isBlocking
+bare-blocks always = refl
+bare-blocks (lookup withdraws blocks s fs) = refl
+bare-blocks (deposit s fs) = refl
+bare-blocks (transfer withdraws from to fs) = refl
+
+abbrev blocks : Branch → Bool
+blocks br = isBlocking (br .guard)
+
+-- the answer is the one among the branches ahead
+abbrev pub Asking : List ℕ → (at count : ℕ) → Type 0
+Asking b at count = Ahead (canWait (statementOf b)) (any blocks) b at count
+
+module _ (b : List ℕ) where
+  pub ask-first : T (legalBody b) → Asking b branchesAt (getD b branchCountAt 0 - 0)
+  unfolding canWait
+  ask-first t = ahead-first (canWait (statementOf b)) (any blocks) b t refl
+
+  module _ (at count : ℕ) (h : Asking b at count) where
+    pub ask-end : count ≡ 0 → false ≡ canWait (statementOf b)
+    unfolding any
+    ask-end z = sym (ahead-end (canWait (statementOf b)) (any blocks) b at count h z)
+
+    module _ (others : ℕ) (s : count ≡ suc others) (r : Bare) (n : PassedBranch b at others r) where
+      told : (x : Bool) → isBlocking (operationOf (r .code) (r .from) (r .to) []) ≡ x → blocks (n .0 .first) ≡ x
+      told x e = sym (bare-blocks (n .0 .first .guard)) ∙ ap isBlocking (sym (n .1)) ∙ e
+
+      pub ask-yes : (r .code ≡ 1) ⊎ (r .code ≡ 3) → true ≡ canWait (statementOf b)
+      unfolding any
+      ask-yes e = sym (ahead-here (canWait (statementOf b)) (any blocks) b at count h others s (r .end) (n .0) ∙ rw (told true (code-blocks r e)))
+
+      pub ask-next : (r .code ≡ 1 → ⊥) → (r .code ≡ 3 → ⊥) → (next : ℕ) → next ≡ n .0 .stop → Asking b next others
+      unfolding any
+      ask-next d e next q = ahead-next (canWait (statementOf b)) (any blocks) b at count h others s (r .end) (n .0) (any blocks) (λ l. rw (told false (code-passes r d e))) next q
 
 -- ---- the branch at a position
 
@@ -141,63 +267,3 @@ branchAt b at = maybe (branch (drop at b)) (record { guard = always; body = [] }
 pub branch-is : (b : List ℕ) (at : ℕ) (br : Branch) → Chosen b at br → branchAt b at ≡ br
 unfolding branchAt
 branch-is b at br c = rw (c .reads)
-
--- ---- whether a statement can wait
-
--- in and rd block
-pub guard-blocks : (o : Operation) → (o .code ≡ 1) ⊎ (o .code ≡ 3) → isBlocking (operationIs o) ≡ true
-unfolding operationIs operationOf isBlocking
-guard-blocks o (inl e) = rw e
-guard-blocks o (inr e) = rw e
-
--- the other guards do not
-pub guard-passes : (o : Operation) → T (isGuard (operationIs o)) → (o .code ≡ 1 → ⊥) → (o .code ≡ 3 → ⊥) → isBlocking (operationIs o) ≡ false
-unfolding operationIs operationOf isBlocking isGuard
-guard-passes o g a b = go (o .code) refl g a b
-  where
-    go : (n : ℕ) → o .code ≡ n → T (isGuard (operationOf n (o .from) (o .to) (fieldsIn o))) → (n ≡ 1 → ⊥) → (n ≡ 3 → ⊥) → isBlocking (operationIs o) ≡ false
-    go zero q g a b = rw q
-    go (suc zero) q g a b = absurd (a refl)
-    go (suc (suc zero)) q g a b = rw q
-    go (suc (suc (suc zero))) q g a b = absurd (b refl)
-    go (suc (suc (suc (suc zero)))) q g a b = rw q
-    go (suc (suc (suc (suc (suc zero))))) q g a b = rw q
-    go (suc (suc (suc (suc (suc (suc zero)))))) q g a b = rw q
-    go (suc (suc (suc (suc (suc (suc (suc n))))))) q g a b = rw q
-
--- the answer is the one among the branches ahead
-pub record Asking (b : List ℕ) (x : Bool) (at count : ℕ) : Type 0 where
-  pub ahead : Branches b at count
-  pub same : x ≡ any (λ br. isBlocking (br .guard)) (branchesFrom b at count)
-
-pub ask-first : (b : List ℕ) → Body b → Asking b (canWait (statementOf b)) branchesAt (getD b branchCountAt 0 - 0)
-unfolding canWait
-ask-first b h = let e : getD b branchCountAt 0 - 0 ≡ getD b branchCountAt 0 = omega arith in rw e (record { ahead = h .branches; same = ap (any (λ (br : Branch). isBlocking (br .guard))) (sym (h .same)) })
-
-module _ (b : List ℕ) (x : Bool) (at count : ℕ) (h : Asking b x at count) where
-  pub ask-end : count ≡ 0 → false ≡ x
-  unfolding branchesFrom several give any
-  ask-end z = sym (h .same ∙ ap (λ (k : ℕ). any (λ (br : Branch). isBlocking (br .guard)) (branchesFrom b at k)) z)
-
-  module _ (m : ℕ) (s : count ≡ suc m) (r : OperationRead) (e : Reads r (operationAt b at)) where
-    ask-to-come : Branches b at (suc m)
-    ask-to-come = subst (Branches b at) s (h .ahead)
-
-    ask-whole : x ≡ any (λ (br : Branch). isBlocking (br .guard)) (next-branch b at m ask-to-come r e .first ∷ next-branch b at m ask-to-come r e .later)
-    ask-whole =
-        h .same ∙ ap (λ (k : ℕ). any (λ (br : Branch). isBlocking (br .guard)) (branchesFrom b at k)) s ∙ ap (any (λ (br : Branch). isBlocking (br .guard))) (next-branch b at m ask-to-come r e .all)
-
-    pub ask-yes : isBlocking (operationIs (r .operation)) ≡ true → true ≡ x
-    unfolding any
-    ask-yes g =
-        let n = next-branch b at m ask-to-come r e in
-        let t : isBlocking (n .first .guard) ≡ true = ap isBlocking (sym (n .guard)) ∙ g in
-        sym (ask-whole ∙ rw t)
-
-    pub ask-next : isBlocking (operationIs (r .operation)) ≡ false → (next : ℕ) → drop next b ≡ leftAt b (r .end + countWidth) (getD b (r .end) 0) → Asking b x next m
-    unfolding any
-    ask-next g next d =
-        let n = next-branch b at m ask-to-come r e in
-        let t : isBlocking (n .first .guard) ≡ false = ap isBlocking (sym (n .guard)) ∙ g in
-        let y = n .others next d in
-        record { ahead = y .0; same = ask-whole ∙ rw (t, y .1) }

@@ -1,45 +1,28 @@
 // Rule 2: the guards of a statement, which branch they choose, and whether it can wait.
 ghost use mathlib.Core.Path.{_≡_};
 ghost use Prim.Native.Nat.{_≤_};
-ghost use lib.ListN.{length, drop};
+ghost use lib.ListN.{length};
 ghost use lib.Dec.{T};
 ghost use Rattle.basis.specs.Sizes.{mostTuples, tuplesSize};
-ghost use Rattle.model.specs.Execution.{ready, chosen, canWait};
+ghost use Rattle.model.specs.Execution.{chosen, canWait};
 ghost use Rattle.model.specs.Legal.{legalBody};
 ghost use Rattle.layout.specs.Stored.{statementOf};
 ghost use Rattle.tuples.specs.Section.{tuplesOf};
-ghost use Rattle.guards.specs.Branches.{leftAt, Stand};
-ghost use Rattle.guards.specs.Searching.{Chooses};
+ghost use Rattle.walk.specs.Choosing.{Chooses};
+use statements::pass_operation;
 use statements::read_operation;
-
-// The position after so many operations.
-fn after_operations(body: &[u8], at: usize, count: usize) -> usize
-    requires { ⌜ Stand (now body) at count × (at ≤ length (now body)) ⌝ }
-    ensures { λ r. ⌜ (drop r (now (body .entry)) ≡ leftAt (now (body .entry)) at count) × (r ≤ length (now (body .entry))) ⌝ }
-{
-    let mut next = at;
-    let mut left = count;
-    while 0 < left {
-        next = read_operation(body, next).end;
-        left -= 1;
-    }
-    next
-}
-
-// A branch, counted from 1, and the position of its guard; 0: none.
-pub struct Choice {
-    pub branch: u8,
-    pub at: usize,
-}
+use walk::Choice;
+use walk::operations_end;
 
 // Rule 2: "The branch search stops at the first branch whose guard finds a tuple or is true".
 pub fn search(tuples: &[u8], n: usize, body: &[u8]) -> Choice
     requires { ⌜ (length (now tuples) ≡ tuplesSize) × (n ≤ mostTuples) × T (legalBody (now body)) ⌝ }
-    ensures { λ r. ⌜ Chooses (now (body .entry)) (chosen (tuplesOf (now (tuples .entry)) n) (statementOf (now (body .entry)))) (r .branch) (r .at) ⌝ }
+    ensures { λ r. ⌜ Chooses (now (body .entry)) (tuplesOf (now (tuples .entry)) n) (chosen (tuplesOf (now (tuples .entry)) n) (statementOf (now (body .entry)))) (r .branch) (r .at) (r .tuple) ⌝ }
 {
     let count = body[words::BRANCH_COUNT_AT];
     let mut branch = 0;
     let mut at = words::BRANCHES_AT;
+    let mut tuple = 0;
     let mut i = 0;
     'branches: while i < count {
         let guard = read_operation(body, at);
@@ -53,23 +36,16 @@ pub fn search(tuples: &[u8], n: usize, body: &[u8]) -> Choice
         'tuples: while j < n {
             if matching::is_match(tuples, j, template) {
                 branch = i + 1;
+                tuple = j;
                 break 'branches;
             }
             j += 1;
         }
         let end = guard.end;
-        at = after_operations(body, end + words::COUNT_WIDTH, words::size(body[end]));
+        at = operations_end(body, end + words::COUNT_WIDTH, words::size(body[end]));
         i += 1;
     }
-    Choice { branch, at }
-}
-
-// "finds a tuple or is true": whether some guard of a statement holds.
-pub fn ready(tuples: &[u8], n: usize, body: &[u8]) -> bool
-    requires { ⌜ (length (now tuples) ≡ tuplesSize) × (n ≤ mostTuples) × T (legalBody (now body)) ⌝ }
-    ensures { λ r. ⌜ r ≡ ready (tuplesOf (now (tuples .entry)) n) (statementOf (now (body .entry))) ⌝ }
-{
-    search(tuples, n, body).branch != 0
+    Choice { branch, at, tuple }
 }
 
 // "the statement waits when some guard is in or rd".
@@ -81,16 +57,15 @@ pub fn can_wait(body: &[u8]) -> bool
     let mut at = words::BRANCHES_AT;
     let mut i = 0;
     while i < count {
-        let guard = read_operation(body, at);
-        let op = guard.operation;
-        if op.code == 1 {
+        let guard = pass_operation(body, at);
+        if guard.code == 1 {
             return true;
         }
-        if op.code == 3 {
+        if guard.code == 3 {
             return true;
         }
         let end = guard.end;
-        at = after_operations(body, end + words::COUNT_WIDTH, words::size(body[end]));
+        at = operations_end(body, end + words::COUNT_WIDTH, words::size(body[end]));
         i += 1;
     }
     false

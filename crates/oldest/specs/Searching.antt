@@ -1,16 +1,24 @@
 -- The search for the oldest waiting statement with a guard that holds, and that there is none. Assumes nothing.
 use mathlib.Core.Path.{_≡_, refl, sym, ap, _∙_}
-use Prim.Native.Nat.{ℕ, suc, _≤_, _<_}
-use mathlib.Core.Bool.{Bool, true, false, not, cond, _&&_}
+use Prim.Native.Nat.{ℕ, _+_, _≤_, _<_}
+use mathlib.Core.Bool.{Bool, true, false, not, _&&_, _||_}
 use mathlib.Core.Option.{Option, none, some}
 use mathlib.Core.List.{List, [], _∷_}
-use lib.ListN.{length, getD}
-use Rattle.basis.specs.Lists.{all, Found, first, firstFrom}
-use Rattle.basis.specs.RestLaws.{Passed, passed-none, first-here, first-end}
+use lib.ListN.{length}
+use Rattle.basis.specs.Choice.{isSome}
+use Rattle.basis.specs.Lists.{all, any, Found, first, firstFrom}
+use Rattle.basis.specs.ListLaws.{first-any}
+use Rattle.basis.specs.RestLaws.{Passed, passed-none, first-here, first-more, first-end}
 use Rattle.model.specs.Matching.{Tuple}
-use Rattle.model.specs.Execution.{ready}
+use Rattle.model.specs.Execution.{ready, chosen}
 use Rattle.model.specs.Run.{Waiting}
-use Rattle.queue.specs.PlaceLaws.{noWaiting}
+use Rattle.layout.specs.Stored.{statementOf}
+use Rattle.queue.specs.Queue.{waitingOf, IsQueued}
+use Rattle.queue.specs.Bodies.{bytes-statement}
+use Rattle.queue.specs.PlaceLaws.{noWaiting, waitingNth, bodyOf}
+use Rattle.walk.specs.declared.Choice.{Choice}
+use Rattle.walk.specs.Choosing.{Chooses}
+use Rattle.guards.specs.Searching.{chooses-ready, chooses-none}
 use Rattle.oldest.specs.declared.Oldest.{Oldest}
 use Rattle.oldest.specs.declared.Oldest.the-variants.{At, Nobody}
 
@@ -22,46 +30,58 @@ readyIn ts w = ready ts (w .statement)
 abbrev pub unready : List Tuple → Waiting → Bool
 unready ts w = not (readyIn ts w)
 
--- the index of the one that is found; nobody, where none is
-unfoldable pub oldestOf : Option (Found Waiting) → Oldest
-oldestOf none = Nobody
-oldestOf (some f) = At (f .index)
+module _ (p : List ℕ) (n : ℕ) (ts : List Tuple) where
+  -- the branch that the guards of the waiting statement at an index choose, by the bytes of its body
+  abbrev pub ChoosesAt : ℕ → Choice → Type 0
+  ChoosesAt i c = Chooses (bodyOf p i) ts (chosen ts ((waitingNth p n i) .statement)) (c .branch) (c .at) (c .tuple)
 
--- i are passed, and none of them is the one
-abbrev pub Searching : (Waiting → Bool) → List Waiting → ℕ → Type 0
-Searching q l i = Passed (first q l) (firstFrom q i) l i
+  -- as its body is lent
+  pub chooses-at : (i : ℕ) → IsQueued p n → i < n → (b : List ℕ) → b ≡ bodyOf p i → (c : Choice) → Chooses b ts (chosen ts (statementOf b)) (c .branch) (c .at) (c .tuple) → ChoosesAt i c
+  chooses-at i h below b e c k = rw (e, bytes-statement p n i h below) at k
 
-module _ (q : Waiting → Bool) (l : List Waiting) where
-  pub searching-start : Searching q l 0
+  -- it is the oldest with a guard that holds
+  pub record RunsAt (i : ℕ) (c : Choice) : Type 0 where
+    pub is : first (readyIn ts) (waitingOf p n) ≡ some (record { index = i; item = waitingNth p n i })
+    pub chooses : ChoosesAt i c
+
+  -- who runs next, as the code tells it
+  abbrev pub Answers : Oldest → Type 0
+  Answers (At i c) = RunsAt i c
+  Answers Nobody = first (readyIn ts) (waitingOf p n) ≡ none
+
+  -- i are passed, and none of them is the one
+  abbrev pub Searching : ℕ → Type 0
+  Searching i = Passed (first (readyIn ts) (waitingOf p n)) (firstFrom (readyIn ts) i) (waitingOf p n) i
+
+  pub searching-start : Searching 0
   unfolding first
   searching-start = passed-none refl
 
-  module _ (i : ℕ) (u : Searching q l i) where
-    pub search-hit : i < length l → q (getD l i noWaiting) ≡ true → At i ≡ oldestOf (first q l)
-    unfolding oldestOf
-    search-hit below t = sym (ap oldestOf (first-here q u noWaiting below t))
+  module _ (i : ℕ) (u : Searching i) where
+    pub search-end : length (waitingOf p n) ≤ i → Answers Nobody
+    search-end past = first-end (readyIn ts) u past
 
-    pub search-end : length l ≤ i → Nobody ≡ oldestOf (first q l)
-    unfolding oldestOf
-    search-end past = sym (ap oldestOf (first-end q u past))
+    module _ (below : i < length (waitingOf p n)) (c : Choice) (h : ChoosesAt i c) where
+      abbrev here : Waiting
+      here = waitingNth p n i
+
+      pub search-hit : (c .branch ≡ 0 → ⊥) → Answers (At i c)
+      search-hit z = record { is = first-here (readyIn ts) u noWaiting below (chooses-ready (bodyOf p i) ts (here .statement) (c .branch) (c .at) (c .tuple) h z); chooses = h }
+
+      pub search-miss : c .branch ≡ 0 → Searching (i + 1)
+      search-miss z = first-more (readyIn ts) u noWaiting below (chooses-none (bodyOf p i) ts (here .statement) (c .branch) (c .at) (c .tuple) h z)
 
 -- ---- nobody is found
 
-unfoldable pub isNobody : Oldest → Bool
-isNobody (At i) = false
-isNobody Nobody = true
-
 module _ (ts : List Tuple) where
-  none-from : (i : ℕ) (l : List Waiting) → isNobody (oldestOf (firstFrom (readyIn ts) i l)) ≡ all (unready ts) l
-  unfolding firstFrom all oldestOf isNobody
-  none-from i [] = refl
-  none-from i (w ∷ l) = go (readyIn ts w) (none-from (suc i) l)
+  none-any : (l : List Waiting) → all (unready ts) l ≡ not (any (readyIn ts) l)
+  unfolding all any
+  none-any [] = refl
+  none-any (w ∷ l) = go (readyIn ts w) (none-any l)
     where
-      go : (b : Bool) → isNobody (oldestOf (firstFrom (readyIn ts) (suc i) l)) ≡ all (unready ts) l
-          → isNobody (oldestOf (cond b (some (record { index = i; item = w })) (firstFrom (readyIn ts) (suc i) l))) ≡ (not b && all (unready ts) l)
+      go : (b : Bool) → all (unready ts) l ≡ not (any (readyIn ts) l) → (not b && all (unready ts) l) ≡ not (b || any (readyIn ts) l)
       go true e = refl
       go false e = e
 
-  pub nobody-ready : (l : List Waiting) (r : Oldest) → r ≡ oldestOf (first (readyIn ts) l) → isNobody r ≡ all (unready ts) l
-  unfolding first
-  nobody-ready l r e = ap isNobody e ∙ none-from 0 l
+  pub none-ready : (l : List Waiting) (o : Option (Found Waiting)) → first (readyIn ts) l ≡ o → not (isSome o) ≡ all (unready ts) l
+  none-ready l o e = sym (none-any l ∙ ap not (sym (first-any (readyIn ts) l) ∙ ap isSome e))

@@ -2,38 +2,39 @@
 ghost use mathlib.Core.Path.{_≡_};
 ghost use Prim.Native.Nat.{_≤_, _<_};
 ghost use lib.ListN.{length};
-ghost use Rattle.basis.specs.Lists.{all, first};
+ghost use Rattle.basis.specs.Lists.{all};
 ghost use Rattle.basis.specs.Sizes.{mostTuples, tuplesSize};
 ghost use Rattle.tuples.specs.Section.{tuplesOf};
 ghost use Rattle.queue.specs.Queue.{waitingOf, IsQueued};
-ghost use Rattle.queue.specs.PlaceLaws.{waitingNth};
-ghost use Rattle.oldest.specs.Searching.{readyIn, unready, oldestOf};
+ghost use Rattle.oldest.specs.Searching.{ChoosesAt, unready, Answers};
+use walk::Choice;
 
-// Who runs next: the waiting statement at an index, or nobody.
+// Who runs next: the waiting statement at an index, with the branch that its guards choose, or nobody.
 pub enum Oldest {
-    At(usize),
+    At(usize, Choice),
     Nobody,
 }
 
-// Whether a guard of the waiting statement at an index holds.
-fn waiting_ready(waiting: &[u8], n: usize, i: usize, tuples: &[u8], m: usize) -> bool
+// The branch that the guards of the waiting statement at an index choose.
+fn waiting_choice(waiting: &[u8], n: usize, i: usize, tuples: &[u8], m: usize) -> Choice
     requires { ⌜ IsQueued (now waiting) n × (i < n) × (length (now tuples) ≡ tuplesSize) × (m ≤ mostTuples) ⌝ }
-    ensures { λ r. ⌜ r ≡ readyIn (tuplesOf (now (tuples .entry)) m) (waitingNth (now (waiting .entry)) n i) ⌝ }
+    ensures { λ r. ⌜ ChoosesAt (now (waiting .entry)) n (tuplesOf (now (tuples .entry)) m) i r ⌝ }
 {
     let from = queue::body_at(i);
     let end = from + queue::body_length(waiting, i);
-    guards::ready(tuples, m, &waiting[from..end])
+    guards::search(tuples, m, &waiting[from..end])
 }
 
 // The oldest of n waiting statements with a guard that holds, with m tuples.
 pub fn oldest_ready(waiting: &[u8], n: usize, tuples: &[u8], m: usize) -> Oldest
     requires { ⌜ IsQueued (now waiting) n × (length (now tuples) ≡ tuplesSize) × (m ≤ mostTuples) ⌝ }
-    ensures { λ r. ⌜ r ≡ oldestOf (first (readyIn (tuplesOf (now (tuples .entry)) m)) (waitingOf (now (waiting .entry)) n)) ⌝ }
+    ensures { λ r. ⌜ Answers (now (waiting .entry)) n (tuplesOf (now (tuples .entry)) m) r ⌝ }
 {
     let mut i = 0;
     while i < n {
-        if waiting_ready(waiting, n, i, tuples, m) {
-            return Oldest::At(i);
+        let choice = waiting_choice(waiting, n, i, tuples, m);
+        if choice.branch != 0 {
+            return Oldest::At(i, choice);
         }
         i += 1;
     }
@@ -46,7 +47,7 @@ pub fn none_ready(waiting: &[u8], n: usize, tuples: &[u8], m: usize) -> bool
     ensures { λ r. ⌜ r ≡ all (unready (tuplesOf (now (tuples .entry)) m)) (waitingOf (now (waiting .entry)) n) ⌝ }
 {
     match oldest_ready(waiting, n, tuples, m) {
-        Oldest::At(_) => false,
+        Oldest::At(_, _) => false,
         Oldest::Nobody => true,
     }
 }

@@ -40,7 +40,7 @@ module _ (p : List ℕ) (n i : ℕ) (h : IsQueued p n) (below : i < n) where
     pub body-within : from + size ≤ length p
     body-within = omega (arith, body-small, row-within)
 
-    body-lent : take (from + size - from) (drop from p) ≡ bodyOf p i
+    pub body-lent : take (from + size - from) (drop from p) ≡ bodyOf p i
     body-lent =
         let k : from + size - from ≡ bodySize p i = omega (arith, e) in
         rw (k, f)
