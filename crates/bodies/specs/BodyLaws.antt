@@ -1,6 +1,6 @@
 -- A legal body: host, process, a branch count, and legal branches that take up the rest. Assumes nothing.
 use mathlib.Core.Path.{_≡_, refl, sym, ap, _∙_}
-use Prim.Native.Nat.{ℕ, _+_, suc, _-_, _≤_, _<_}
+use Prim.Native.Nat.{ℕ, suc, _-_, _≤_, _<_}
 use native.Mathlib.Omega.{arith}
 use mathlib.Core.Bool.{Bool, true, false, _&&_, cond}
 use mathlib.Core.Option.{Option, none, some}
@@ -18,9 +18,23 @@ use Rattle.model.specs.Statement.{Branch, Statement}
 use Rattle.model.specs.Legal.{legalBranch, legalStatement, parse, legalBody}
 use Rattle.model.specs.Reading.{several, wholeOf, branch}
 use Rattle.model.specs.ReadBack.{several-length}
-use Rattle.statements.specs.Ends.{endAt, endOf, end-of}
-use Rattle.bodies.specs.Branching.{endsAt}
+use Rattle.statements.specs.Ends.{endAt, endOf, end-of, position-some}
+use Rattle.statements.specs.At.{position}
 use Rattle.walk.specs.BodyParts.{statementOf, statement-one, statement-short}
+
+-- a position is the end
+unfoldable pub endsAt : Option ℕ → ℕ → Bool
+endsAt none n = false
+endsAt (some end) n = eqb end n
+
+-- the position that was found, or that there is none
+pub ends-none : (o : Option ℕ) (n : ℕ) → position 0 ≡ o → false ≡ endsAt o n
+unfolding endsAt position
+ends-none o n e = ap (λ (x : Option ℕ). endsAt x n) e
+
+pub ends-some : (o : Option ℕ) (end n : ℕ) → 0 < end → position end ≡ o → eqb end n ≡ endsAt o n
+unfolding endsAt
+ends-some o end n h e = ap (λ (x : Option ℕ). endsAt x n) (sym (position-some end h) ∙ e)
 
 -- more than 250 bytes
 pub body-long : (b : List ℕ) → mostBody < length b → false ≡ legalBody b
