@@ -52,36 +52,37 @@ record Kept (w : Written) (st : Statement) (xs : List (Addition Operation)) : Ty
   parts : Parts (accepted w xs) ys
   now : held (handAll w xs .bytes) (handAll w xs .fill) ≡ some (growAll st ys)
 
-kept-next : (w : Written) (st : Statement) (x : Addition Operation) (xs : List (Addition Operation)) → held (w .bytes) (w .fill) ≡ some st
+-- one addition that was answered 0, and the statement with it
+record Taken (w : Written) (st : Statement) (x : Addition Operation) : Type 0 where
+  y : Addition model.Operation
+  part : {zs : List (Addition Operation)} {ys : List (Addition model.Operation)} → Parts zs ys → Parts (x ∷ zs) (y ∷ ys)
+  now : held (handIn w x .bytes) (handIn w x .fill) ≡ some (grow st y)
+
+kept-next : (w : Written) (st : Statement) (x : Addition Operation) (xs : List (Addition Operation)) → (handIn w x .answer ≡ 0 → Taken w st x) → ((handIn w x .answer ≡ 0 → ⊥) → held (handIn w x .bytes) (handIn w x .fill) ≡ some st)
     → ((now : Statement) → held (handIn w x .bytes) (handIn w x .fill) ≡ some now → Kept (handIn w x) now xs) → Kept w st (x ∷ xs)
-unfolding accepted handAll growAll handIn grow addOperation addBranch
-kept-next w st (operation p) xs e more = go (eqb (handIn w (operation p) .answer) 0) refl
+unfolding accepted handAll growAll
+kept-next w st x xs done refused more = go (eqb (handIn w x .answer) 0) refl
   where
-    go : (b : Bool) → eqb (handIn w (operation p) .answer) 0 ≡ b → Kept w st (operation p ∷ xs)
+    go : (b : Bool) → eqb (handIn w x .answer) 0 ≡ b → Kept w st (x ∷ xs)
     go true q =
-        let z : handIn w (operation p) .answer ≡ 0 = eqb-true _ _ q in
-        let a = add-filled withOperation (w .bytes) (w .fill) p z in
-        let r = more (withOperation st (a .addition)) (add-done withOperation w st p e z) in
-        record { ys = operation (a .addition) ∷ r .ys; parts = rw q (operation-part (a .part) (r .parts)); now = r .now }
+        let t = done (eqb-true _ _ q) in
+        let r = more (grow st (t .y)) (t .now) in
+        record { ys = t .y ∷ r .ys; parts = rw q (t .part (r .parts)); now = r .now }
     go false q =
-        let r = more st (add-refused withOperation w st p e (eqb-false _ _ q)) in
-        record { ys = r .ys; parts = rw q (r .parts); now = r .now }
-kept-next w st (branch p) xs e more = go (eqb (handIn w (branch p) .answer) 0) refl
-  where
-    go : (b : Bool) → eqb (handIn w (branch p) .answer) 0 ≡ b → Kept w st (branch p ∷ xs)
-    go true q =
-        let z : handIn w (branch p) .answer ≡ 0 = eqb-true _ _ q in
-        let a = add-filled withBranch (w .bytes) (w .fill) p z in
-        let r = more (withBranch st (a .addition)) (add-done withBranch w st p e z) in
-        record { ys = branch (a .addition) ∷ r .ys; parts = rw q (branch-part (a .part) (r .parts)); now = r .now }
-    go false q =
-        let r = more st (add-refused withBranch w st p e (eqb-false _ _ q)) in
+        let r = more st (refused (eqb-false _ _ q)) in
         record { ys = r .ys; parts = rw q (r .parts); now = r .now }
 
 kept-held : (w : Written) (st : Statement) (xs : List (Addition Operation)) → held (w .bytes) (w .fill) ≡ some st → Kept w st xs
-unfolding accepted handAll growAll
+unfolding accepted handAll growAll handIn grow addOperation addBranch
 kept-held w st [] e = record { ys = []; parts = no-part; now = e }
-kept-held w st (x ∷ xs) e = kept-next w st x xs e (λ now q. kept-held (handIn w x) now xs q)
+kept-held w st (operation p ∷ xs) e =
+    kept-next w st (operation p) xs
+    (λ z. let a = add-filled withOperation (w .bytes) (w .fill) p z in record { y = operation (a .addition); part = operation-part (a .part); now = add-done withOperation w st p e z })
+    (add-refused withOperation w st p e) (λ now q. kept-held (handIn w (operation p)) now xs q)
+kept-held w st (branch p ∷ xs) e =
+    kept-next w st (branch p) xs
+    (λ z. let a = add-filled withBranch (w .bytes) (w .fill) p z in record { y = branch (a .addition); part = branch-part (a .part); now = add-done withBranch w st p e z })
+    (add-refused withBranch w st p e) (λ now q. kept-held (handIn w (branch p)) now xs q)
 
 -- Whatever is handed in after a begin that is done, the filled bytes are read as exactly what was answered 0.
 pub accepted-read : (buffer : List ℕ) (h p : ℕ) (g : Operation) (xs : List (Addition Operation)) → beginOn buffer h p g .answer ≡ 0

@@ -1,5 +1,6 @@
 pub mod At
 pub mod BranchAt
+pub mod Codes
 pub mod Ends
 pub mod Fields
 pub mod Fixed
