@@ -1,6 +1,6 @@
 -- A legal body: host, process, a branch count, and legal branches that take up the rest. Assumes nothing.
 use mathlib.Core.Path.{_≡_, refl, sym, ap, _∙_}
-use Prim.Native.Nat.{ℕ, _+_, suc, _-_, _≤_, _<_}
+use Prim.Native.Nat.{ℕ, suc, _-_, _≤_, _<_}
 use native.Mathlib.Omega.{arith}
 use mathlib.Core.Bool.{Bool, true, false, _&&_, cond}
 use mathlib.Core.Option.{Option, none, some}
@@ -13,14 +13,29 @@ use Rattle.basis.specs.Lists.{all, isEmpty}
 use Rattle.basis.specs.Numbers.{numberAt}
 use Rattle.basis.specs.NumberLaws.{bytes-of, numberAt-lt}
 use Rattle.words.specs.WordLaws.{numberAt-1}
+use Rattle.words.specs.ZeroLaws.{and-false}
 use Rattle.basis.specs.Sizes.{mostBranches, mostBody, hosts, processes, processWidth, processAt, branchCountAt, branchesAt, hostAt}
 use Rattle.model.specs.Statement.{Branch, Statement}
 use Rattle.model.specs.Legal.{legalBranch, legalStatement, parse, legalBody}
 use Rattle.model.specs.Reading.{several, wholeOf, branch}
 use Rattle.model.specs.ReadBack.{several-length}
-use Rattle.statements.specs.Ends.{endAt, endOf, end-of}
-use Rattle.bodies.specs.Branching.{endsAt}
+use Rattle.statements.specs.Ends.{endAt, endOf, end-of, position-some}
+use Rattle.statements.specs.At.{position}
 use Rattle.walk.specs.BodyParts.{statementOf, statement-one, statement-short}
+
+-- a position is the end
+unfoldable pub endsAt : Option ℕ → ℕ → Bool
+endsAt none n = false
+endsAt (some end) n = eqb end n
+
+-- the position that was found, or that there is none
+pub ends-none : (o : Option ℕ) (n : ℕ) → position 0 ≡ o → false ≡ endsAt o n
+unfolding endsAt position
+ends-none o n e = ap (λ (x : Option ℕ). endsAt x n) e
+
+pub ends-some : (o : Option ℕ) (end n : ℕ) → 0 < end → position end ≡ o → eqb end n ≡ endsAt o n
+unfolding endsAt
+ends-some o end n h e = ap (λ (x : Option ℕ). endsAt x n) (sym (position-some end h) ∙ e)
 
 -- more than 250 bytes
 pub body-long : (b : List ℕ) → mostBody < length b → false ≡ legalBody b
@@ -47,15 +62,11 @@ at-end b [] h = eq-eqb (length b - 0) (length b) (omega arith)
 at-end b (x ∷ rest) h = ne-eqb (length b - suc (length rest)) (length b) (λ e. omega arith)
 
 -- what is read is legal, and nothing is left
-pub tests : (a c d e z : Bool) (st : Statement) (end n : ℕ) → eqb end n ≡ z → legalStatement st ≡ (a && true && c && d && e)
+tests : (a c d e z : Bool) (st : Statement) (end n : ℕ) → eqb end n ≡ z → legalStatement st ≡ (a && true && c && d && e)
     → ((a && c && d) && endsAt (provided e end) n) ≡ isSome (maybe {B = Option Statement} (provided z st) none (λ x. provided (legalStatement x) x))
 unfolding provided endsAt isSome
 tests a c d e z st end n q k = go z e q k
   where
-    no : (t : Bool) → (t && false) ≡ false
-    no true = refl
-    no false = refl
-
     taken : (a c d t : Bool) → ((a && c && d) && t) ≡ isSome {A = Statement} (cond (a && true && c && d && t) (some st) none)
     taken true true true true = refl
     taken true true true false = refl
@@ -67,8 +78,8 @@ tests a c d e z st end n q k = go z e q k
         → ((a && c && d) && endsAt (cond e (some end) none) n) ≡ isSome (maybe {B = Option Statement} (cond z (some st) none) none (λ x. cond (legalStatement x) (some x) none))
     go true true q k = rw (q, k) (taken a c d true)
     go true false q k = rw k (taken a c d false)
-    go false true q k = rw q (no (a && c && d))
-    go false false q k = no (a && c && d)
+    go false true q k = rw q (and-false (a && c && d))
+    go false false q k = and-false (a && c && d)
 
 pub body-legal : (b : List ℕ) → length b ≤ mostBody → branchesAt ≤ length b → ((k : ℕ) → getD b k 0 < 256)
     → (headOk (getD b hostAt 0) (getD b branchCountAt 0) && endsAt (endAt (several branch (getD b branchCountAt 0)) (all legalBranch) b branchesAt) (length b)) ≡ legalBody b
@@ -78,14 +89,10 @@ body-legal b h l bytes =
     rw (le-leb (length b) mostBody h, statement-one b l, numberAt-1 hostAt b (omega arith), end-of (several branch (getD b branchCountAt 0)) (all legalBranch) b branchesAt)
     (go (several branch (getD b branchCountAt 0) (drop branchesAt b)) refl p)
   where
-    no : (t : Bool) → (t && false) ≡ false
-    no true = refl
-    no false = refl
-
     go : (o : Option (List Branch × List ℕ)) → several branch (getD b branchCountAt 0) (drop branchesAt b) ≡ o → numberAt processAt processWidth b < processes
         → (headOk (getD b hostAt 0) (getD b branchCountAt 0) && endsAt (endOf (all legalBranch) b o) (length b))
         ≡ isSome (maybe {B = Option Statement} (maybe {B = Option Statement} (statementOf (getD b hostAt 0) (numberAt processAt processWidth b) o) none (λ r. provided (isEmpty (r .1)) (r .0))) none (λ st. provided (legalStatement st) st))
-    go none q p = no (headOk (getD b hostAt 0) (getD b branchCountAt 0))
+    go none q p = and-false (headOk (getD b hostAt 0) (getD b branchCountAt 0))
     go (some r) q p =
         let st : Statement = record { host = getD b hostAt 0; process = numberAt processAt processWidth b; branches = r .0 } in
         let n : length (r .0) ≡ getD b branchCountAt 0 = several-length branch (getD b branchCountAt 0) (drop branchesAt b) (r .1) (r .0) q in

@@ -1,4 +1,2 @@
 pub mod BodyLaws
 pub mod BranchLaws
-pub mod Branching
-pub mod Walking

@@ -30,7 +30,7 @@ use Rattle.writer.specs.Writer.{begun, withOperation, withBranch, held}
 use Rattle.parts.specs.Puts.{Puts, puts-byte, puts-over, puts-then, puts-snoc, puts-length, puts-take}
 use Rattle.parts.specs.Operations.{PutOperation}
 use Rattle.composer.specs.Grown.{raised, raised-take, operation-bytes, branch-bytes, begun-bytes, fits-begun}
-use Rattle.walk.specs.Counts.{legal-some}
+use Rattle.walk.specs.LegalEnds.{legal-some}
 use Rattle.walk.specs.LastCount.{LastCount}
 use Rattle.writer.specs.HeldLaws.{Held, held-some, held-is}
 

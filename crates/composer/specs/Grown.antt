@@ -1,5 +1,6 @@
 -- The bytes of a statement with one addition more: those it had, with one count raised, and those of the addition. Assumes nothing.
 use mathlib.Core.Path.{_≡_, refl, sym, ap, _∙_}
+use mathlib.Core.Bool.{Bool, true, false}
 use mathlib.Core.List.{List, [], _∷_, _++_, flatMap, append-assoc, append-nil, List·Memᴰ·head, List·Memᴰ·tail}
 use Prim.Native.Nat.{ℕ, _+_, _≤_, _<_}
 use native.Mathlib.Nat.{suc-add}
@@ -18,6 +19,11 @@ use Rattle.writer.specs.Writer.{begun, inLast, withOperation, withBranch}
 use Rattle.writer.specs.WriterLaws.{in-last-length}
 use Rattle.parts.specs.Fields.{flatMap-one}
 use Rattle.walk.specs.Counts.{beforeCount, before-more, countAt}
+
+-- a branch more, or an operation more
+abbrev pub grownBy : (branch : Bool) → Statement → Operation → Statement
+grownBy true = withBranch
+grownBy false = withOperation
 
 -- ---- a byte raised by one
 
@@ -141,14 +147,18 @@ in-last-fits [] o f h = each-nil _
 in-last-fits (b ∷ []) o f h = each-cons FitsBranch _ [] (fits-more b o (f b (List·Memᴰ·head refl)) h) (each-nil _)
 in-last-fits (b ∷ c ∷ bs) o f h = each-cons FitsBranch b (inLast (c ∷ bs) o) (f b (List·Memᴰ·head refl)) (in-last-fits (c ∷ bs) o (λ x i. f x (List·Memᴰ·tail i)) h)
 
-pub grows-operation : Grows withOperation
+grows-operation : Grows withOperation
 unfolding withOperation
 grows-operation st o f h = record { host = f .host; process = f .process; branches = in-last-fits (st .branches) o (f .branches) h }
 
-pub grows-branch : Grows withBranch
+grows-branch : Grows withBranch
 unfolding withBranch
 grows-branch st g f h =
     record { host = f .host; process = f .process; branches = each-append FitsBranch (st .branches) _ (f .branches) (each-cons FitsBranch _ [] (fits-guard g h) (each-nil _)) }
+
+pub grows-by : (branch : Bool) → Grows (grownBy branch)
+grows-by true = grows-branch
+grows-by false = grows-operation
 
 pub fits-begun : (h p : ℕ) (g : Operation) → h < 256 → p < processes → FitsOperation g → FitsStatement (begun h p g)
 unfolding begun

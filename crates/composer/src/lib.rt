@@ -6,6 +6,7 @@ ghost use lib.ListN.{length, take};
 ghost use Rattle.basis.specs.Choice.{isSome};
 ghost use Rattle.writer.specs.Writer.{isHanded, held, withOperation, withBranch};
 ghost use Rattle.basis.specs.Sizes.{writerRoom};
+ghost use Rattle.composer.specs.Grown.{grownBy};
 ghost use Rattle.composer.specs.Composed.{Begun, Composed};
 use parts::put_operation;
 use spans::copy_part;
@@ -32,7 +33,7 @@ pub fn compose_begun(t: &mut [u8], host: u8, process: u16, guard: Operation) -> 
 }
 
 // The filled bytes with an operation more: the last branch's operation count is raised. The count of all bytes.
-pub fn compose_operation(t: &mut [u8], buffer: &[u8], fill: usize, op: Operation) -> usize
+fn compose_operation(t: &mut [u8], buffer: &[u8], fill: usize, op: Operation) -> usize
     requires { ⌜ (length (now t) ≡ writerRoom) × (isSome (held (now buffer) fill) ≡ true) × (isHanded op ≡ true) ⌝ }
     ensures { λ r. ⌜ (r ≤ writerRoom) × Composed withOperation (now (buffer .entry)) fill op (take r (now (t .exit))) ⌝ }
 {
@@ -43,7 +44,7 @@ pub fn compose_operation(t: &mut [u8], buffer: &[u8], fill: usize, op: Operation
 }
 
 // The filled bytes with a branch more: the branch count is raised. The count of all bytes.
-pub fn compose_branch(t: &mut [u8], buffer: &[u8], fill: usize, guard: Operation) -> usize
+fn compose_branch(t: &mut [u8], buffer: &[u8], fill: usize, guard: Operation) -> usize
     requires { ⌜ (length (now t) ≡ writerRoom) × (isSome (held (now buffer) fill) ≡ true) × (isHanded guard ≡ true) ⌝ }
     ensures { λ r. ⌜ (r ≤ writerRoom) × Composed withBranch (now (buffer .entry)) fill guard (take r (now (t .exit))) ⌝ }
 {
@@ -52,4 +53,21 @@ pub fn compose_branch(t: &mut [u8], buffer: &[u8], fill: usize, guard: Operation
     let end = put_operation(t, fill, guard);
     t[end] = 0;
     end + COUNT_WIDTH
+}
+
+// The filled bytes with an addition more: a branch with this guard, or an operation of the last branch. The count of all bytes.
+pub fn compose_added(
+    t: &mut [u8],
+    buffer: &[u8],
+    fill: usize,
+    added: Operation,
+    branch: bool,
+) -> usize
+    requires { ⌜ (length (now t) ≡ writerRoom) × (isSome (held (now buffer) fill) ≡ true) × (isHanded added ≡ true) ⌝ }
+    ensures { λ r. ⌜ (r ≤ writerRoom) × Composed (grownBy branch) (now (buffer .entry)) fill added (take r (now (t .exit))) ⌝ }
+{
+    if branch {
+        return compose_branch(t, buffer, fill, added);
+    }
+    compose_operation(t, buffer, fill, added)
 }

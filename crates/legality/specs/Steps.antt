@@ -1,21 +1,22 @@
 -- Legal operations from position to position, with the kinds that they bind. Assumes nothing.
 use mathlib.Core.Path.{_≡_, refl, sym, ap, _∙_}
-use Prim.Native.Nat.{ℕ, suc, _-_, _≤_}
+use Prim.Native.Nat.{ℕ, suc, _≤_}
 use native.Mathlib.Omega.{arith}
-use mathlib.Core.Bool.{Bool, true, false, _&&_, cond, true≢false}
+use mathlib.Core.Bool.{Bool, true, false, _&&_, cond}
 use mathlib.Core.Option.{Option, none, some, Option·some-injective, Option·none-ne-some}
 use mathlib.Core.List.{List, _∷_}
-use lib.ListN.{length, drop}
+use lib.ListN.{length}
+use lib.Dec.{T}
 use Rattle.basis.specs.Choice.{maybe, provided}
 use Rattle.basis.specs.Lists.{all}
 use Rattle.model.specs.Statement.{Operation}
 use Rattle.model.specs.Legal.{Kinds, bindKinds, fieldsOf, legalOperation, legalOperations, isGuard, isBodyOperation}
 use Rattle.model.specs.Reading.{several, operation}
-use Rattle.statements.specs.At.{readAt, passed, readAt-some, suffix-at}
+use Rattle.statements.specs.At.{readAt, passed, readAt-some}
 use Rattle.statements.specs.Flat.{fewFields, operationAt}
 use Rattle.statements.specs.Operations.{suffix-operation}
 use Rattle.legality.specs.OperationLaws.{operationStep}
-use Rattle.statements.specs.Ends.{endAt, endOf, end-of, several-one, several-no, end-cons}
+use Rattle.statements.specs.Ends.{endAt, ends-first}
 use Rattle.walk.specs.LegalEnds.{legal-few}
 
 -- where an operation may stand: as a guard, or in a body
@@ -43,55 +44,42 @@ body-cons ks o os = go (isBodyOperation o) (all isBodyOperation os) (legalOperat
     go true false false = refl
     go false c d = refl
 
--- what was read, at the position of what is left
-unfoldable pub laterOf : {A : Type 0} → Bool → Kinds → Operation → ℕ → (Kinds → ℕ → Option A) → Option A
-laterOf place ks o end later = cond (place && legalOperation ks o) (later (bindKinds ks (fieldsOf o)) end) none
-
 -- the operation at a position, then what is later
-pub step-later : {A : Type 0} (guard : Bool) (ks : Kinds) (b : List ℕ) (at : ℕ) (o : Operation) (rest : List ℕ) (later : Kinds → ℕ → Option A) → operation (drop at b) ≡ some (o, rest)
-    → maybe (stepAt guard ks b at) none (λ r. later (r .0) (r .1)) ≡ laterOf (placeOk guard o) ks o (length b - length rest) later
-unfolding stepAt operationAt operationStep laterOf passed readAt provided
-step-later {A} guard ks b at o rest later e =
-    rw e (read (fewFields o) (o, length b - length rest) ∙ ap (λ (z : Option A). cond (fewFields o) z none) (stands (placeOk guard o) (legalOperation ks o)) ∙ few (fewFields o) (placeOk guard o) (legalOperation ks o) (legal-few ks o))
+pub step-later : {A : Type 0} (guard : Bool) (ks : Kinds) (b : List ℕ) (at : ℕ) (later : Kinds → ℕ → Option A)
+    → maybe (stepAt guard ks b at) none (λ r. later (r .0) (r .1)) ≡ maybe (readAt operation b at) none (λ r. cond (placeOk guard (r .0) && legalOperation ks (r .0)) (later (bindKinds ks (fieldsOf (r .0))) (r .1)) none)
+unfolding stepAt operationAt operationStep passed provided
+step-later {A} guard ks b at later = go (readAt operation b at)
   where
     next : Operation × ℕ → Option (Kinds × ℕ)
     next r = maybe (cond (placeOk guard (r .0)) (operationStep ks (r .0)) none) none (λ after. some (after, r .1))
 
-    read : (f : Bool) (x : Operation × ℕ) → maybe (maybe (provided f x) none next) none (λ r. later (r .0) (r .1)) ≡ cond f (maybe (next x) none (λ r. later (r .0) (r .1))) none
-    read true x = refl
-    read false x = refl
+    after : Operation × ℕ → Option A
+    after r = later (bindKinds ks (fieldsOf (r .0))) (r .1)
 
-    stands : (p l : Bool) → maybe {A = Kinds × ℕ} (maybe {A = Kinds} (cond p (cond l (some (bindKinds ks (fieldsOf o))) none) none) none (λ after. some (after, length b - length rest))) none (λ r. later (r .0) (r .1))
-        ≡ cond (p && l) (later (bindKinds ks (fieldsOf o)) (length b - length rest)) none
-    stands true true = refl
-    stands true false = refl
-    stands false l = refl
+    stands : (r : Operation × ℕ) (p l : Bool) → maybe {A = Kinds × ℕ} (maybe {A = Kinds} (cond p (cond l (some (bindKinds ks (fieldsOf (r .0)))) none) none) none (λ after. some (after, r .1))) none (λ r. later (r .0) (r .1)) ≡ cond (p && l) (after r) none
+    stands r true true = refl
+    stands r true false = refl
+    stands r false l = refl
 
-    few : (f p l : Bool) → (l ≡ true → f ≡ true) → cond f (cond (p && l) (later (bindKinds ks (fieldsOf o)) (length b - length rest)) none) none ≡ cond (p && l) (later (bindKinds ks (fieldsOf o)) (length b - length rest)) none
-    few true p l h = refl
-    few false true true h = absurd (true≢false (sym (h refl)))
-    few false true false h = refl
-    few false false l h = refl
+    -- a legal operation has few fields
+    test : (r : Operation × ℕ) (f p l : Bool) → (T l → T f) → maybe (next r) none (λ r. later (r .0) (r .1)) ≡ cond (p && l) (after r) none
+        → maybe (maybe (cond f (some r) none) none next) none (λ r. later (r .0) (r .1)) ≡ cond (p && l) (after r) none
+    test r true p l h e = e
+    test r false true true h e = absurd (h tt)
+    test r false true false h e = refl
+    test r false false l h e = refl
 
-pub step-none : (guard : Bool) (ks : Kinds) (b : List ℕ) (at : ℕ) → operation (drop at b) ≡ none → stepAt guard ks b at ≡ none
-unfolding stepAt operationAt passed readAt
-step-none guard ks b at e = rw e
+    go : (o : Option (Operation × ℕ)) → maybe (maybe (maybe o none (λ r. cond (fewFields (r .0)) (some r) none)) none next) none (λ r. later (r .0) (r .1)) ≡ maybe o none (λ r. cond (placeOk guard (r .0) && legalOperation ks (r .0)) (after r) none)
+    go none = refl
+    go (some r) = test r (fewFields (r .0)) (placeOk guard (r .0)) (legalOperation ks (r .0)) (legal-few ks (r .0)) (stands r (placeOk guard (r .0)) (legalOperation ks (r .0)))
 
 -- the operations of a body: one, then the rest
 pub body-turn : (ks : Kinds) (m : ℕ) (b : List ℕ) (at : ℕ)
     → endAt (several operation (suc m)) (bodyLegal ks) b at ≡ maybe (stepAt false ks b at) none (λ r. endAt (several operation m) (bodyLegal (r .0)) b (r .1))
-unfolding laterOf placeOk
-body-turn ks m b at = end-of (several operation (suc m)) (bodyLegal ks) b at ∙ go (operation (drop at b)) refl
-  where
-    go : (o : Option (Operation × List ℕ)) → operation (drop at b) ≡ o
-        → endOf (bodyLegal ks) b (several operation (suc m) (drop at b)) ≡ maybe (stepAt false ks b at) none (λ r. endAt (several operation m) (bodyLegal (r .0)) b (r .1))
-    go none q = rw (several-no operation m (drop at b) q, step-none false ks b at q)
-    go (some r) q =
-        let ks′ : Kinds = bindKinds ks (fieldsOf (r .0)) in
-        let e : endAt (several operation m) (bodyLegal ks′) b (length b - length (r .1)) ≡ endOf (bodyLegal ks′) b (several operation m (r .1)) = end-of (several operation m) (bodyLegal ks′) b (length b - length (r .1)) ∙ ap (λ (s : List ℕ). endOf (bodyLegal ks′) b (several operation m s)) (suffix-at operation suffix-operation b at (r .0) (r .1) q) in
-        rw (several-one operation m (drop at b) (r .1) (r .0) q)
-        (end-cons (bodyLegal ks) (isBodyOperation (r .0) && legalOperation ks (r .0)) (bodyLegal ks′) (r .0) (body-cons ks (r .0)) b (several operation m (r .1))
-        ∙ rw (← e) (sym (step-later false ks b at (r .0) (r .1) (λ k n. endAt (several operation m) (bodyLegal k) b n) q)))
+unfolding placeOk
+body-turn ks m b at =
+    ends-first operation suffix-operation (bodyLegal ks) (λ o. isBodyOperation o && legalOperation ks o) (λ o. bodyLegal (bindKinds ks (fieldsOf o))) (body-cons ks) m b at
+    ∙ sym (step-later false ks b at (λ k n. endAt (several operation m) (bodyLegal k) b n))
 
 -- the position after an operation is within the bytes
 pub step-within : (guard : Bool) (ks after : Kinds) (b : List ℕ) (at end : ℕ) → stepAt guard ks b at ≡ some (after, end) → end ≤ length b

@@ -1,37 +1,34 @@
 -- A body part by part: what was read and handed in so far, and what stands ahead. Assumes nothing.
-use mathlib.Core.Path.{_≡_, refl, sym, ap, subst, _∙_}
-use Prim.Native.Nat.{ℕ, zero, suc, _+_, _-_, _≤_, _<_}
+use mathlib.Core.Path.{_≡_, sym, ap, subst, _∙_}
+use Prim.Native.Nat.{ℕ, suc, _+_, _-_, _≤_, _<_}
 use native.Mathlib.Omega.{arith}
-use mathlib.Core.Bool.{Bool, true}
-use mathlib.Core.Option.{Option, some, Option·some-injective, Option·none-ne-some}
+use mathlib.Core.Option.{Option, some}
 use mathlib.Core.List.{List, [], _∷_, _++_, map}
-use lib.ListN.{length, drop, getD}
+use lib.ListN.{length, drop, getD, length-drop}
 use lib.Seq.{drop-append-seam}
 use lib.Dec.{T, leb, le→leb}
-use Rattle.basis.specs.Logic.{and-l, and-r, both}
-use Rattle.basis.specs.Lists.{all}
+use Rattle.basis.specs.Logic.{both}
 use Rattle.basis.specs.Numbers.{numberAt}
+use Rattle.basis.specs.NumberLaws.{bytes-of}
 use Rattle.basis.specs.Sizes.{hostAt, processWidth, mostBody, processAt, branchCountAt, branchesAt, countWidth}
 use Rattle.model.specs.Statement as model
-use Rattle.model.specs.Statement.{Branch, Statement}
-use Rattle.model.specs.Reading.{several, give, operation, branch}
-use Rattle.model.specs.Legal.{legalBranch, legalStatement, parse, legalBody}
+use Rattle.model.specs.Statement.{Statement}
+use Rattle.model.specs.Reading.{operation, branch}
+use Rattle.model.specs.Legal.{legalBranch, legalStatement, legalBody}
 use Rattle.model.specs.Writing.{statementBytes}
-use Rattle.model.specs.ReadBack.{BodyOf, several-length, parse-parts}
+use Rattle.model.specs.ReadBack.{BodyOf, parse-parts}
+use Rattle.layout.specs.Stored.{statementOf, legal-parse}
 use Rattle.statements.specs.declared.OperationRead.{OperationRead}
-use Rattle.statements.specs.At.{found}
-use Rattle.statements.specs.BranchAt.{branch-at}
-use Rattle.statements.specs.Flat.{operationIs, readIs, Reads, fewFields, operationAt}
-use Rattle.walk.specs.BodyParts.{body-parts}
-use Rattle.walk.specs.Positions.{one-branch, one-operation, operation-at}
+use Rattle.statements.specs.Flat.{operationIs, Reads, operationAt}
+use Rattle.walk.specs.BodyParts.{BodyParts}
+use Rattle.walk.specs.Standing.{StandAs, none-left, no-items}
+use Rattle.walk.specs.Walk.{Operations, operationsAt, afterOperations, Branches, branchesFrom, NextBranch, ReadBranch, read-next, read-branch, body-is, body-branches, body-count}
 use Rattle.writer.specs.declared.Added.{Added}
 use Rattle.writer.specs.Writer.{handed, begun, Written, writtenIs, isWritable, filledWith, beginOn, addOperation, addBranch}
 use Rattle.writer.specs.Tests.{parts-handed}
-use Rattle.walk.specs.Counts.{legal-some}
-use Rattle.walk.specs.LastCount.{bytes-below, body-some}
 use Rattle.rewriter.specs.Additions as addition
 use Rattle.rewriter.specs.Additions.{Addition, additions, handIn, grow, growAll}
-use Rattle.rewriter.specs.Fronts.{legal-each, branch-few, front, some-grow, grown-all}
+use Rattle.rewriter.specs.Fronts.{front, some-grow, grown-all}
 use Rattle.rewriter.specs.RoundTrips.{holding, drop-front, begin-front, operation-front, branch-front}
 
 -- what was read can be handed in as it is
@@ -40,69 +37,38 @@ read-handed r o s = parts-handed (r .operation) (s .code) (s .count) (s .formed)
 
 -- ---- what stands ahead
 
--- from a position of the body on: so many operations of a branch, then so many branches, to the end
-pub record Ahead (body : List ℕ) (at count later : ℕ) (os : List model.Operation) (bs : List Branch) : Type 0 where
-  pub rest : List ℕ
-  pub reads : several operation count (drop at body) ≡ some (os, rest)
-  pub few : T (all fewFields os)
-  pub reads-later : several branch later rest ≡ some (bs, [])
-  pub legal : T (all legalBranch bs)
+-- from a position of the body on: so many operations of a branch, and after them so many branches
+pub record Ahead (body : List ℕ) (at count later : ℕ) : Type 0 where
+  pub within : at ≤ length body
+  pub operations : Operations body at count
+  pub next : ℕ
+  pub next-within : next ≤ length body
+  pub after : afterOperations body at count ≡ drop next body
+  pub branches : Branches body next later
 
-found-is : (n end : ℕ) (x a : model.Operation) → found n x ≡ some (a, end) → (x ≡ a) × (n ≡ end)
-unfolding found
-found-is zero end x a e = absurd (Option·none-ne-some (a, end) e)
-found-is (suc n) end x a e =
-    let q = Option·some-injective (x, suc n) (a, end) e in
-    (ap (λ (y : model.Operation × ℕ). y .0) q, ap (λ (y : model.Operation × ℕ). y .1) q)
+-- the additions that they are
+abbrev pub toCome : (body : List ℕ) (at count next later : ℕ) → List (Addition model.Operation)
+toCome body at count next later = map addition.operation (operationsAt body at count) ++ additions (branchesFrom body next later)
 
--- what the reader answered is the operation that stands there
-read-is : (b : List ℕ) (at end : ℕ) (o : model.Operation) (r : OperationRead) → operation (drop at b) ≡ some (o, drop end b) → end ≤ length b → T (fewFields o) → Reads r (operationAt b at)
-    → (operationIs (r .operation) ≡ o) × (r .end ≡ end)
-unfolding readIs
-read-is b at end o r e h t s = found-is (r .end) end (operationIs (r .operation)) o (s .is ∙ operation-at b at end o e h t)
+-- a guard was read: the operations of its branch stand ahead, and the other branches
+module _ (body : List ℕ) (at m end : ℕ) (h : NextBranch body at m end) where
+  abbrev branch-ahead : Ahead body (end + countWidth) (getD body end 0) m
+  branch-ahead = record { within = omega (arith, h .long); operations = h .body; next = h .stop; next-within = h .within; after = h .after; branches = h .later }
 
-all-parts : {A : Type 0} (p : A → Bool) (a : A) (l : List A) → T (all p (a ∷ l)) → T (p a) × T (all p l)
-unfolding all
-all-parts p a l t = (and-l (p a) (all p l) t, and-r (p a) (all p l) t)
+  to-come : toCome body (end + countWidth) (getD body end 0) (h .stop) m ≡ map addition.operation (h .first .body) ++ additions (branchesFrom body (h .stop) m)
+  to-come = ap (λ (os : List model.Operation). map addition.operation os ++ additions (branchesFrom body (h .stop) m)) (h .is-body)
 
--- the first operation is read, the others stand after it
-record OperationAhead (body : List ℕ) (m later : ℕ) (o : model.Operation) (os : List model.Operation) (bs : List Branch) (r : OperationRead) : Type 0 where
-  is : operationIs (r .operation) ≡ o
-  ahead : Ahead body (r .end) m later os bs
+-- no operation is ahead: the branches stand here
+next-here : (body : List ℕ) (at later : ℕ) (a : Ahead body at 0 later) → a .next ≡ at
+next-here body at later a = omega (arith, a .within, a .next-within, ap length (sym (none-left operation body at) ∙ a .after), length-drop at body, length-drop (a .next) body)
 
-operation-ahead : (body : List ℕ) (at m later : ℕ) (o : model.Operation) (os : List model.Operation) (bs : List Branch) (r : OperationRead) → Ahead body at (suc m) later (o ∷ os) bs → Reads r (operationAt body at)
-    → OperationAhead body m later o os bs r
-operation-ahead body at m later o os bs r a s =
-    let k = one-operation m body at o os (a .rest) (a .reads) in
-    let few = all-parts fewFields o os (a .few) in
-    let q = read-is body at (k .end) o r (k .first) (k .within) (few .0) s in
-    record { is = q .0; ahead = record { rest = a .rest; reads = rw (q .1) (k .later); few = few .1; reads-later = a .reads-later; legal = a .legal } }
+branches-alone : (body : List ℕ) (at next later : ℕ) → next ≡ at → toCome body at 0 next later ≡ additions (branchesFrom body at later)
+branches-alone body at next later e = ap (λ (os : List model.Operation). map addition.operation os ++ additions (branchesFrom body next later)) (no-items operation body at) ∙ ap (λ (n : ℕ). additions (branchesFrom body n later)) e
 
--- the guard of the first branch is read, its operations and the other branches stand after it and its operation count
-record BranchAhead (body : List ℕ) (m : ℕ) (br : Branch) (bs : List Branch) (r : OperationRead) : Type 0 where
-  is : operationIs (r .operation) ≡ br .guard
-  within : r .end < length body
-  ahead : Ahead body (r .end + countWidth) (getD body (r .end) 0) m (br .body) bs
+-- ---- what was handed in
 
-branch-ahead : (body : List ℕ) (at m : ℕ) (br : Branch) (bs : List Branch) (r : OperationRead) → several branch (suc m) (drop at body) ≡ some (br ∷ bs, []) → T (all legalBranch (br ∷ bs)) → Reads r (operationAt body at)
-    → BranchAhead body m br bs r
-branch-ahead body at m br bs r e t s =
-    let one = one-branch m body at br bs [] e in
-    let k = branch-at body at br (drop (one .end) body) (one .first) in
-    let legal = all-parts legalBranch br bs t in
-    let few = all-parts fewFields (br .guard) (br .body) (branch-few br (legal .0)) in
-    let q = read-is body at (k .end) (br .guard) r (k .guard) (omega (arith, k .within)) (few .0) s in
-    let n : getD body (r .end) 0 ≡ length (br .body) = ap (λ (i : ℕ). getD body i 0) (q .1) ∙ k .count in
-    record {
-      is = q .0;
-      within = omega (arith, k .within, q .1);
-      ahead = record { rest = drop (one .end) body; reads = rw (n, q .1) (k .body); few = few .1; reads-later = one .later; legal = legal .1 };
-    }
-
--- ---- underway
-
--- The filled bytes of `out` are those of a front part of the body's statement, bytes past them are those of the buffer that the writer was begun on, and what stands ahead is all that is to come.
-pub record Underway (body buffer : List ℕ) (at count later fill : ℕ) (out : List ℕ) : Type 0 where
+-- The filled bytes of `out` are those of a front part of the body's statement, bytes past them are those of the buffer that the writer was begun on, and the additions to come make it the whole.
+pub record Filled (body buffer : List ℕ) (fill : ℕ) (out : List ℕ) (ys : List (Addition model.Operation)) : Type 0 where
   pub whole : Statement
   pub is : BodyOf body whole
   pub room : length body ≤ length buffer
@@ -110,10 +76,7 @@ pub record Underway (body buffer : List ℕ) (at count later fill : ℕ) (out : 
   pub one : 1 ≤ length (part .branches)
   pub filled : fill ≡ length (statementBytes part)
   pub bytes : out ≡ statementBytes part ++ drop (length (statementBytes part)) buffer
-  pub os : List model.Operation
-  pub bs : List Branch
-  pub ahead : Ahead body at count later os bs
-  pub grows : growAll part (map addition.operation os ++ additions bs) ≡ whole
+  pub grows : growAll part ys ≡ whole
 
 -- what a call left, where it left the bytes of a statement
 left-by : (buffer : List ℕ) (st : Statement) (a : Added) (next : List ℕ) → writtenIs a next ≡ holding buffer st → (a .fill ≡ length (statementBytes st)) × (next ≡ statementBytes st ++ drop (length (statementBytes st)) buffer)
@@ -143,109 +106,91 @@ unfolding growAll
 after-one st whole y ys e = e
 
 -- one addition more was handed in
-module _ (body buffer : List ℕ) (at count later fill : ℕ) (out : List ℕ) (u : Underway body buffer at count later fill out) (y : Addition model.Operation) (os : List model.Operation) (bs : List Branch)
-    (grows : growAll (u .part) (y ∷ (map addition.operation os ++ additions bs)) ≡ u .whole) (a : Added) (next : List ℕ) where
-  more : (at′ count′ later′ : ℕ) → Ahead body at′ count′ later′ os bs
-      → (T (isWritable (u .part)) → T (isWritable (grow (u .part) y)) → length (statementBytes (grow (u .part) y)) ≤ length buffer → writtenIs a next ≡ holding buffer (grow (u .part) y))
-      → Underway body buffer at′ count′ later′ (a .fill) next
-  more at′ count′ later′ ahead w =
-      let on : growAll (grow (u .part) y) (map addition.operation os ++ additions bs) ≡ u .whole = after-one (u .part) (u .whole) y (map addition.operation os ++ additions bs) grows in
-      let one : 1 ≤ length (grow (u .part) y .branches) = some-grow (u .part) y (u .one) in
-      let p = part-of body (u .part) (u .whole) (y ∷ (map addition.operation os ++ additions bs)) (u .is) (u .one) grows in
-      let q = part-of body (grow (u .part) y) (u .whole) (map addition.operation os ++ additions bs) (u .is) one on in
-      let l = left-by buffer (grow (u .part) y) a next (w (p .0) (q .0) (omega (arith, u .room, q .1))) in
-      record { whole = u .whole; is = u .is; room = u .room; part = grow (u .part) y; one = one; filled = l .0; bytes = l .1; os = os; bs = bs; ahead = ahead; grows = on }
+more : (body buffer : List ℕ) (fill : ℕ) (out : List ℕ) (y : Addition model.Operation) (ys : List (Addition model.Operation)) (u : Filled body buffer fill out (y ∷ ys)) (a : Added) (next : List ℕ)
+    → (T (isWritable (u .part)) → T (isWritable (grow (u .part) y)) → length (statementBytes (grow (u .part) y)) ≤ length buffer → writtenIs a next ≡ holding buffer (grow (u .part) y))
+    → Filled body buffer (a .fill) next ys
+more body buffer fill out y ys u a next w =
+    let on : growAll (grow (u .part) y) ys ≡ u .whole = after-one (u .part) (u .whole) y ys (u .grows) in
+    let one : 1 ≤ length (grow (u .part) y .branches) = some-grow (u .part) y (u .one) in
+    let p = part-of body (u .part) (u .whole) (y ∷ ys) (u .is) (u .one) (u .grows) in
+    let q = part-of body (grow (u .part) y) (u .whole) ys (u .is) one on in
+    let l = left-by buffer (grow (u .part) y) a next (w (p .0) (q .0) (omega (arith, u .room, q .1))) in
+    record { whole = u .whole; is = u .is; room = u .room; part = grow (u .part) y; one = one; filled = l .0; bytes = l .1; grows = on }
+
+-- ---- underway
+
+pub record Underway (body buffer : List ℕ) (at count later fill : ℕ) (out : List ℕ) : Type 0 where
+  pub ahead : Ahead body at count later
+  pub so-far : Filled body buffer fill out (toCome body at count (ahead .next) later)
 
 -- one operation more
 pub operation-turn : (body buffer : List ℕ) (at m later fill : ℕ) (out : List ℕ) (u : Underway body buffer at (suc m) later fill out) (r : OperationRead) → Reads r (operationAt body at)
     → (a : Added) (next : List ℕ) → writtenIs a next ≡ addOperation out fill (r .operation) → Underway body buffer (r .end) m later (a .fill) next
-operation-turn body buffer at m later fill out u r s a next w = go (u .os) (u .ahead) (u .grows) (several-length operation (suc m) (drop at body) (u .ahead .rest) (u .os) (u .ahead .reads))
-  where
-    called : addOperation out fill (r .operation) ≡ handIn (holding buffer (u .part)) (addition.operation (r .operation))
-    called = unfold handIn in called-on buffer (u .part) fill out (λ l n. addOperation l n (r .operation)) (u .filled) (u .bytes)
-
-    go : (os : List model.Operation) → Ahead body at (suc m) later os (u .bs) → growAll (u .part) (map addition.operation os ++ additions (u .bs)) ≡ u .whole → length os ≡ suc m
-        → Underway body buffer (r .end) m later (a .fill) next
-    go [] e g n = absurd (omega arith)
-    go (o ∷ os) e g n =
-        let k = operation-ahead body at m later o os (u .bs) r e s in
-        more body buffer at (suc m) later fill out u (addition.operation o) os (u .bs) g a next (r .end) m later (k .ahead)
-        (λ x y z. w ∙ called ∙ operation-front buffer (u .part) (u .one) (r .operation) o (read-handed r (operationAt body at) s ∙ ap some (k .is)) x y z)
-
--- no operation is ahead
-none-ahead : (body : List ℕ) (at later : ℕ) (os : List model.Operation) (bs : List Branch) → Ahead body at 0 later os bs → (os ≡ []) × (several branch later (drop at body) ≡ some (bs, []))
-unfolding several give
-none-ahead body at later os bs a =
-    let q = Option·some-injective ([], drop at body) (os, a .rest) (a .reads) in
-    (sym (ap (λ (x : List model.Operation × List ℕ). x .0) q), ap (several branch later) (ap (λ (x : List model.Operation × List ℕ). x .1) q) ∙ a .reads-later)
+unfolding handIn
+operation-turn body buffer at m later fill out u r s a next w =
+    let h = u .ahead in
+    let n = read-next body at m (h .operations) r s in
+    let o : model.Operation = operationIs (r .operation) in
+    let ys : List (Addition model.Operation) = toCome body (r .end) m (h .next) later in
+    let split : toCome body at (suc m) (h .next) later ≡ addition.operation o ∷ ys = ap (λ (os : List model.Operation). map addition.operation os ++ additions (branchesFrom body (h .next) later)) (n .items) in
+    let f : Filled body buffer fill out (addition.operation o ∷ ys) = subst (λ (l : List (Addition model.Operation)). Filled body buffer fill out l) split (u .so-far) in
+    let called : addOperation out fill (r .operation) ≡ handIn (holding buffer (f .part)) (addition.operation (r .operation)) = called-on buffer (f .part) fill out (λ l n. addOperation l n (r .operation)) (f .filled) (f .bytes) in
+    record {
+      ahead = record { within = n .within; operations = n .later; next = h .next; next-within = h .next-within; after = sym (n .left) ∙ h .after; branches = h .branches };
+      so-far = more body buffer fill out (addition.operation o) ys f a next (λ x y z. w ∙ called ∙ operation-front buffer (f .part) (f .one) (r .operation) o (read-handed r (operationAt body at) s) x y z);
+    }
 
 -- the next branch, of which the guard is read
 module _ (body buffer : List ℕ) (at m fill : ℕ) (out : List ℕ) (u : Underway body buffer at 0 (suc m) fill out) (r : OperationRead) (s : Reads r (operationAt body at)) where
-  record NextBranch : Type 0 where
-    br : Branch
-    bs : List Branch
-    next : BranchAhead body m br bs r
-    grows : growAll (u .part) (addition.branch (br .guard) ∷ (map addition.operation (br .body) ++ additions bs)) ≡ u .whole
-
-  next-branch : NextBranch
-  next-branch =
-      let n = none-ahead body at (suc m) (u .os) (u .bs) (u .ahead) in
-      go (u .bs) (n .1) (u .ahead .legal) (subst (λ (os : List model.Operation). growAll (u .part) (map addition.operation os ++ additions (u .bs)) ≡ u .whole) (n .0) (u .grows))
-      (several-length branch (suc m) (drop at body) [] (u .bs) (n .1))
-    where
-      go : (bs : List Branch) → several branch (suc m) (drop at body) ≡ some (bs, []) → T (all legalBranch bs) → growAll (u .part) (additions bs) ≡ u .whole → length bs ≡ suc m → NextBranch
-      go [] e t g n = absurd (omega arith)
-      go (br ∷ bs) e t g n = record { br = br; bs = bs; next = branch-ahead body at m br bs r e t s; grows = unfold additions in g }
+  next-branch : ReadBranch body at m r
+  next-branch = read-branch body at m (subst (λ (n : ℕ). Branches body n (suc m)) (next-here body at (suc m) (u .ahead)) (u .ahead .branches)) r s
 
   -- its operation count stands after its guard
   pub guard-within : r .end < length body
-  guard-within = next-branch .next .within
+  guard-within = next-branch .0 .long
 
   -- one branch more: its operations are ahead
   pub branch-turn : (a : Added) (next : List ℕ) → writtenIs a next ≡ addBranch out fill (r .operation)
       → Underway body buffer (r .end + countWidth) (getD body (r .end) 0) m (a .fill) next
+  unfolding additions handIn
   branch-turn a next w =
-      let k = next-branch in
-      let called : addBranch out fill (r .operation) ≡ handIn (holding buffer (u .part)) (addition.branch (r .operation)) = unfold handIn in called-on buffer (u .part) fill out (λ l n. addBranch l n (r .operation)) (u .filled) (u .bytes) in
-      more body buffer at 0 (suc m) fill out u (addition.branch (k .br .guard)) (k .br .body) (k .bs) (k .grows) a next (r .end + countWidth) (getD body (r .end) 0) m (k .next .ahead)
-      (λ x y z. w ∙ called ∙ branch-front buffer (u .part) (u .one) (r .operation) (k .br .guard) (read-handed r (operationAt body at) s ∙ ap some (k .next .is)) x y z)
-
-no-branches : (s : List ℕ) (bs : List Branch) (rest : List ℕ) → several branch 0 s ≡ some (bs, rest) → bs ≡ []
-unfolding several give
-no-branches s bs rest e = sym (ap (λ (x : List Branch × List ℕ). x .0) (Option·some-injective ([], s) (bs, rest) e))
+      let h : NextBranch body at m (r .end) = next-branch .0 in
+      let g : model.Operation = h .first .guard in
+      let ys : List (Addition model.Operation) = toCome body (r .end + countWidth) (getD body (r .end) 0) (h .stop) m in
+      let split : toCome body at 0 (u .ahead .next) (suc m) ≡ addition.branch g ∷ ys = branches-alone body at (u .ahead .next) (suc m) (next-here body at (suc m) (u .ahead)) ∙ ap additions (h .items) ∙ ap (λ (l : List (Addition model.Operation)). addition.branch g ∷ l) (sym (to-come body at m (r .end) h)) in
+      let f : Filled body buffer fill out (addition.branch g ∷ ys) = subst (λ (l : List (Addition model.Operation)). Filled body buffer fill out l) split (u .so-far) in
+      let called : addBranch out fill (r .operation) ≡ handIn (holding buffer (f .part)) (addition.branch (r .operation)) = called-on buffer (f .part) fill out (λ l n. addBranch l n (r .operation)) (f .filled) (f .bytes) in
+      record {
+        ahead = branch-ahead body at m (r .end) h;
+        so-far = more body buffer fill out (addition.branch g) ys f a next (λ x y z. w ∙ called ∙ branch-front buffer (f .part) (f .one) (r .operation) g (read-handed r (operationAt body at) s ∙ ap some (next-branch .1)) x y z);
+      }
 
 -- nothing is ahead: all was handed in
 pub all-in : (body buffer : List ℕ) (at fill : ℕ) (out : List ℕ) → Underway body buffer at 0 0 fill out → (fill ≡ length body) × (out ≡ body ++ drop (length body) buffer)
+unfolding additions growAll
 all-in body buffer at fill out u =
-    let n = none-ahead body at 0 (u .os) (u .bs) (u .ahead) in
-    let m : u .bs ≡ [] = no-branches (drop at body) (u .bs) [] (n .1) in
-    let done : growAll (u .part) (map addition.operation (u .os) ++ additions (u .bs)) ≡ u .part = rw (n .0, m) (unfold additions growAll in refl) in
-    let e : statementBytes (u .part) ≡ body = ap statementBytes (sym done ∙ u .grows) ∙ u .is .bytes in
-    (u .filled ∙ ap length e, u .bytes ∙ ap (λ (b : List ℕ). b ++ drop (length b) buffer) e)
+    let f = u .so-far in
+    let none : toCome body at 0 (u .ahead .next) 0 ≡ [] = branches-alone body at (u .ahead .next) 0 (next-here body at 0 (u .ahead)) ∙ ap additions (no-items branch body at) in
+    let done : f .part ≡ f .whole = sym (ap (growAll (f .part)) none) ∙ f .grows in
+    let e : statementBytes (f .part) ≡ body = ap statementBytes done ∙ f .is .bytes in
+    (f .filled ∙ ap length e, f .bytes ∙ ap (λ (b : List ℕ). b ++ drop (length b) buffer) e)
 
 -- bytes past the body are unchanged
 pub past-body : (body buffer : List ℕ) (at count later fill : ℕ) (out : List ℕ) → Underway body buffer at count later fill out → drop (length body) out ≡ drop (length body) buffer
 past-body body buffer at count later fill out u =
-    let p = part-of body (u .part) (u .whole) (map addition.operation (u .os) ++ additions (u .bs)) (u .is) (u .one) (u .grows) in
-    ap (drop (length body)) (u .bytes) ∙ drop-front (statementBytes (u .part)) buffer (length body) (p .1)
+    let f = u .so-far in
+    let p = part-of body (f .part) (f .whole) (toCome body at count (u .ahead .next) later) (f .is) (f .one) (f .grows) in
+    ap (drop (length body)) (f .bytes) ∙ drop-front (statementBytes (f .part)) buffer (length body) (p .1)
 
 -- the same, as if begun on the bytes that are there now
 pub on-its-own : (body buffer : List ℕ) (at count later fill : ℕ) (out : List ℕ) → Underway body buffer at count later fill out → length out ≡ length buffer → Underway body out at count later fill out
 on-its-own body buffer at count later fill out u same =
-    let b : List ℕ = statementBytes (u .part) in
-    let d : drop (length b) out ≡ drop (length b) buffer = ap (drop (length b)) (u .bytes) ∙ drop-append-seam b (drop (length b) buffer) in
+    let f = u .so-far in
+    let b : List ℕ = statementBytes (f .part) in
+    let d : drop (length b) out ≡ drop (length b) buffer = ap (drop (length b)) (f .bytes) ∙ drop-append-seam b (drop (length b) buffer) in
     record {
-      whole = u .whole;
-      is = u .is;
-      room = omega (arith, u .room);
-      part = u .part;
-      one = u .one;
-      filled = u .filled;
-      bytes = u .bytes ∙ ap (λ (l : List ℕ). b ++ l) (sym d);
-      os = u .os;
-      bs = u .bs;
       ahead = u .ahead;
-      grows = u .grows;
+      so-far = record { whole = f .whole; is = f .is; room = omega (arith, f .room); part = f .part; one = f .one; filled = f .filled; bytes = f .bytes ∙ ap (λ (l : List ℕ). b ++ l) (sym d); grows = f .grows };
     }
 
 -- ---- the beginning
@@ -255,65 +200,41 @@ unfolding begun
 one-begun h p g = omega arith
 
 -- a legal body, of which the first guard is read: it stands after host, process and branch count
-module _ (body buffer : List ℕ) (is-legal : legalBody body ≡ true) (byte : (k : ℕ) → getD body k 0 < 256) (room : length body ≤ length buffer) (r : OperationRead) (s : Reads r (operationAt body branchesAt)) where
-  record FirstBranch : Type 0 where
-    whole : Statement
-    is : BodyOf body whole
-    long : branchesAt ≤ length body
-    host : getD body hostAt 0 ≡ whole .host
-    process : numberAt processAt processWidth body ≡ whole .process
-    count : 1 ≤ getD body branchCountAt 0
-    br : Branch
-    bs : List Branch
-    split : whole .branches ≡ br ∷ bs
-    next : BranchAhead body (getD body branchCountAt 0 - 1) br bs r
+module _ (body : List ℕ) (is-legal : T (legalBody body)) (r : OperationRead) (s : Reads r (operationAt body branchesAt)) where
+  abbrev whole : Statement
+  whole = statementOf body
 
-  first-branch : FirstBranch
-  first-branch =
-      let k = body-some body is-legal in
-      let b = body-parts body (k .0) (k .1) in
-      let n : length (k .0 .branches) ≡ getD body branchCountAt 0 = several-length branch (getD body branchCountAt 0) (drop branchesAt body) [] (k .0 .branches) (b .branches) in
-      go (k .0) (k .1) (k .0 .branches) refl (b .branches) n (legal-each (k .0) (b .legal)) (legal-some (k .0) (b .legal))
-    where
-      go : (st : Statement) → parse body ≡ some st → (bs : List Branch) → st .branches ≡ bs → several branch (getD body branchCountAt 0) (drop branchesAt body) ≡ some (bs, []) → length bs ≡ getD body branchCountAt 0 → T (all legalBranch bs)
-          → 1 ≤ length (st .branches) → FirstBranch
-      go st k [] q e n t one = absurd (omega (arith, ap length q))
-      go st k (br ∷ bs) q e n t one =
-          let b = body-parts body st k in
-          let m : getD body branchCountAt 0 ≡ suc (getD body branchCountAt 0 - 1) = omega arith in
-          record {
-            whole = st;
-            is = parse-parts body st (bytes-below body byte) k;
-            long = b .long;
-            host = b .host;
-            process = b .process;
-            count = omega arith;
-            br = br;
-            bs = bs;
-            split = q;
-            next = branch-ahead body branchesAt (getD body branchCountAt 0 - 1) br bs r (subst (λ (c : ℕ). several branch c (drop branchesAt body) ≡ some (br ∷ bs, [])) m e) t s;
-          }
+  abbrev others : ℕ
+  others = getD body branchCountAt 0 - 1
+
+  count-is : getD body branchCountAt 0 ≡ suc others
+  count-is = omega (arith, body-count body is-legal)
+
+  abbrev parts : BodyParts body whole
+  parts = body-is body is-legal
+
+  abbrev stand : StandAs branch legalBranch body branchesAt (getD body branchCountAt 0) (whole .branches) []
+  stand = body-branches body whole parts
+
+  first-branch : ReadBranch body branchesAt others r
+  first-branch = read-branch body branchesAt others (subst (λ (n : ℕ). Branches body branchesAt n) count-is (stand .stands)) r s
 
   pub first-within : r .end < length body
-  first-within = first-branch .next .within
-
-  pub first-long : branchesAt ≤ length body
-  first-long = first-branch .long
-
-  pub first-count : 1 ≤ getD body branchCountAt 0
-  first-count = first-branch .count
+  first-within = first-branch .0 .long
 
   -- begun: the operations of the first branch are ahead
-  pub begin-turn : (host process : ℕ) → host ≡ getD body hostAt 0 → process ≡ numberAt processAt processWidth body → (a : Added) (next : List ℕ)
-      → writtenIs a next ≡ beginOn buffer host process (r .operation) → Underway body buffer (r .end + countWidth) (getD body (r .end) 0) (getD body branchCountAt 0 - 1) (a .fill) next
-  begin-turn host process eh ep a next w =
-      let k = first-branch in
-      let st : Statement = k .whole in
-      let g : model.Operation = k .br .guard in
-      let part : Statement = begun (st .host) (st .process) g in
-      let one : 1 ≤ length (part .branches) = one-begun (st .host) (st .process) g in
-      let grows : growAll part (map addition.operation (k .br .body) ++ additions (k .bs)) ≡ st = grown-all st (k .br) (k .bs) (k .split) in
-      let q = part-of body part st (map addition.operation (k .br .body) ++ additions (k .bs)) (k .is) one grows in
-      let called : beginOn buffer host process (r .operation) ≡ beginOn buffer (st .host) (st .process) (r .operation) = λ i. beginOn buffer ((eh ∙ k .host) i) ((ep ∙ k .process) i) (r .operation) in
-      let l = left-by buffer part a next (w ∙ called ∙ begin-front buffer (st .host) (st .process) (r .operation) g (read-handed r (operationAt body branchesAt) s ∙ ap some (k .next .is)) (q .0) (omega (arith, q .1))) in
-      record { whole = st; is = k .is; room = room; part = part; one = one; filled = l .0; bytes = l .1; os = k .br .body; bs = k .bs; ahead = k .next .ahead; grows = grows }
+  pub begin-turn : (buffer : List ℕ) → ((k : ℕ) → getD body k 0 < 256) → length body ≤ length buffer → (host process : ℕ) → host ≡ getD body hostAt 0 → process ≡ numberAt processAt processWidth body → (a : Added) (next : List ℕ)
+      → writtenIs a next ≡ beginOn buffer host process (r .operation) → Underway body buffer (r .end + countWidth) (getD body (r .end) 0) others (a .fill) next
+  begin-turn buffer byte room host process eh ep a next w =
+      let h : NextBranch body branchesAt others (r .end) = first-branch .0 in
+      let g : model.Operation = h .first .guard in
+      let is : BodyOf body whole = parse-parts body whole (bytes-of body byte) (legal-parse body is-legal) in
+      let part : Statement = begun (whole .host) (whole .process) g in
+      let one : 1 ≤ length (part .branches) = one-begun (whole .host) (whole .process) g in
+      let split : whole .branches ≡ h .first ∷ branchesFrom body (h .stop) others = sym (stand .items) ∙ ap (branchesFrom body branchesAt) count-is ∙ h .items in
+      let ys : List (Addition model.Operation) = toCome body (r .end + countWidth) (getD body (r .end) 0) (h .stop) others in
+      let grows : growAll part ys ≡ whole = ap (growAll part) (to-come body branchesAt others (r .end) h) ∙ grown-all whole (h .first) (branchesFrom body (h .stop) others) split in
+      let q = part-of body part whole ys is one grows in
+      let called : beginOn buffer host process (r .operation) ≡ beginOn buffer (whole .host) (whole .process) (r .operation) = λ i. beginOn buffer ((eh ∙ parts .host) i) ((ep ∙ parts .process) i) (r .operation) in
+      let l = left-by buffer part a next (w ∙ called ∙ begin-front buffer (whole .host) (whole .process) (r .operation) g (read-handed r (operationAt body branchesAt) s ∙ ap some (first-branch .1)) (q .0) (omega (arith, q .1))) in
+      record { ahead = branch-ahead body branchesAt others (r .end) h; so-far = record { whole = whole; is = is; room = room; part = part; one = one; filled = l .0; bytes = l .1; grows = grows } }

@@ -13,9 +13,6 @@ use Rattle.basis.specs.Sizes.{hosts, processes, mostBranches, mostOperations, m
 use Rattle.model.specs.Statement.{Operation, Branch, operations, Statement}
 use Rattle.model.specs.Legal.{Kinds, noKinds, bindKinds, fieldsOf, legalOperation, legalOperations, isGuard, isBodyOperation, legalBranch, legalStatement}
 use Rattle.model.specs.Writing.{operationBytes, statementBytes}
-use Rattle.statements.specs.Flat.{fewFields}
-use Rattle.walk.specs.BranchEnds.{fewIn}
-use Rattle.walk.specs.LegalEnds.{legal-fewIn}
 use Rattle.writer.specs.Writer.{begun, inLast, withOperation, withBranch, isWritable}
 use Rattle.writer.specs.WriterLaws.{in-last-length}
 use Rattle.composer.specs.Grown.{raised, operation-bytes, branch-bytes}
@@ -23,18 +20,6 @@ use Rattle.walk.specs.Counts.{countAt}
 use Rattle.rewriter.specs.Additions.{Addition, operation, branch, additions, grow, growAll}
 
 -- ---- legal
-
--- each branch of a legal statement
-pub legal-each : (st : Statement) → T (legalStatement st) → T (all legalBranch (st .branches))
-unfolding legalStatement
-legal-each st t = search (and-l, and-r, t) depth 16
-
--- no operation of a legal branch has more fields than there is room for
-pub branch-few : (br : Branch) → T (legalBranch br) → T (all fewFields (br .guard ∷ br .body))
-branch-few br t = go (legal-fewIn br t)
-  where
-    go : T (fewIn br) → T (all fewFields (br .guard ∷ br .body))
-    go u = unfold fewIn operations in u
 
 all-front : {A : Type 0} (p : A → Bool) (l k : List A) → T (all p (l ++ k)) → T (all p l)
 all-front p l k t = all-of p l (λ a i. all-at p (l ++ k) t a (Memᴰ·append-left k i))

@@ -2,7 +2,7 @@
 use mathlib.Core.Path.{_≡_, refl, ap, _∙_}
 use Prim.Native.Nat.{ℕ, _-_, _≤_, _<_}
 use native.Mathlib.Omega.{arith}
-use mathlib.Core.Bool.{true, false, _&&_}
+use mathlib.Core.Bool.{true, false}
 use mathlib.Core.Option.{some}
 use mathlib.Core.List.{List, [], _∷_, _++_, map}
 use lib.ListN.{length, take, replicate, length-map}
@@ -19,9 +19,8 @@ use Rattle.statements.specs.declared.Operation.{Operation}
 use Rattle.statements.specs.Flat.{codes, hasForm, fieldOf, fieldIs, fieldsAre, operationOf, operationIs, fewFields}
 use Rattle.writer.specs.Writer.{handed}
 use Rattle.writer.specs.Tests.{parts-handed}
-use Rattle.walk.specs.Counts.{legal-some}
+use Rattle.walk.specs.LegalEnds.{legal-some, legal-branches, few-parts}
 use Rattle.rewriter.specs.Additions.{Addition, operation, branch, additions, Parts, no-part, operation-part, branch-part}
-use Rattle.rewriter.specs.Fronts.{legal-each, branch-few}
 
 -- the parts of a field; those that its form lacks are 0
 unfoldable pub fieldParts : model.Field → Field
@@ -107,9 +106,9 @@ branches-parts : (bs : List Branch) → T (all legalBranch bs) → HandedAll (ad
 unfolding all additions
 branches-parts [] t = record { parts = []; are = no-part }
 branches-parts (b ∷ bs) t =
-    let few : T (fewFields (b .guard) && all fewFields (b .body)) = branch-few b (and-l (legalBranch b) (all legalBranch bs) t) in
-    let g = has-part (b .guard) (and-l (fewFields (b .guard)) (all fewFields (b .body)) few) in
-    let k = operations-parts (b .body) (additions bs) (and-r (fewFields (b .guard)) (all fewFields (b .body)) few) (branches-parts bs (and-r (legalBranch b) (all legalBranch bs) t)) in
+    let few = few-parts b (and-l (legalBranch b) (all legalBranch bs) t) in
+    let g = has-part (b .guard) (few .0) in
+    let k = operations-parts (b .body) (additions bs) (few .1) (branches-parts bs (and-r (legalBranch b) (all legalBranch bs) t)) in
     record { parts = branch (g .parts) ∷ k .parts; are = branch-part (g .is) (k .are) }
 
 -- parts of a statement: the first guard, and what comes after it
@@ -121,7 +120,7 @@ pub record HandedStatement (st : Statement) : Type 0 where
 -- every legal statement has them
 pub has-parts : (st : Statement) → T (legalStatement st) → HandedStatement st
 unfolding additions
-has-parts st t = go (st .branches) refl (branches-parts (st .branches) (legal-each st t)) (legal-some st t)
+has-parts st t = go (st .branches) refl (branches-parts (st .branches) (legal-branches st t)) (legal-some st t)
   where
     made-of : (bs : List Branch) (xs : List (Addition Operation)) → st .branches ≡ bs → Parts xs (additions bs) → 1 ≤ length bs → HandedStatement st
     made-of [] xs e p one = absurd (omega arith)

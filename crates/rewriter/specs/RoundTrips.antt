@@ -145,27 +145,40 @@ done-now : (w : Written) (xs : List (Addition Operation)) → Done w xs → w .a
 done-now w [] (last-done z) = z
 done-now w (x ∷ xs) (next-done z d) = z
 
--- what was handed in, and the statement that the filled bytes are after it
-record Grown (w : Written) (st : Statement) (xs : List (Addition Operation)) : Type 0 where
-  ys : List (Addition model.Operation)
-  parts : Parts xs ys
-  now : held (handAll w xs .bytes) (handAll w xs .fill) ≡ some (growAll st ys)
+-- one addition that was answered 0, and the statement with it
+pub record Taken (w : Written) (st : Statement) (x : Addition Operation) : Type 0 where
+  pub y : Addition model.Operation
+  pub part : {xs : List (Addition Operation)} {ys : List (Addition model.Operation)} → Parts xs ys → Parts (x ∷ xs) (y ∷ ys)
+  pub now : held (handIn w x .bytes) (handIn w x .fill) ≡ some (grow st y)
 
-grown-held : (w : Written) (st : Statement) (xs : List (Addition Operation)) → held (w .bytes) (w .fill) ≡ some st → Done w xs → Grown w st xs
-unfolding handAll growAll handIn grow addOperation addBranch
+module _ (grown : Statement → model.Operation → Statement) (w : Written) (st : Statement) (p : Operation) (e : held (w .bytes) (w .fill) ≡ some st) where
+  abbrev after : Written
+  after = addTo grown (w .bytes) (w .fill) p
+
+  add-done : (z : after .answer ≡ 0) → held (after .bytes) (after .fill) ≡ some (grown st (add-filled grown (w .bytes) (w .fill) p z .addition))
+  add-done z =
+      let a = add-filled grown (w .bytes) (w .fill) p z in
+      let same : a .before ≡ st = Option·some-injective (a .before) st (sym (a .was) ∙ e) in
+      filled-held (w .bytes) _ after (a .now) ∙ ap (λ (x : Statement). some (grown x (a .addition))) same
+
+pub taken : (w : Written) (st : Statement) (x : Addition Operation) → held (w .bytes) (w .fill) ≡ some st → handIn w x .answer ≡ 0 → Taken w st x
+unfolding handIn grow addOperation addBranch
+taken w st (operation p) e z = let a = add-filled withOperation (w .bytes) (w .fill) p z in record { y = operation (a .addition); part = operation-part (a .part); now = add-done withOperation w st p e z }
+taken w st (branch p) e z = let a = add-filled withBranch (w .bytes) (w .fill) p z in record { y = branch (a .addition); part = branch-part (a .part); now = add-done withBranch w st p e z }
+
+-- the filled bytes are a statement with these additions more
+pub record Grown (w : Written) (st : Statement) (xs : List (Addition Operation)) : Type 0 where
+  pub ys : List (Addition model.Operation)
+  pub parts : Parts xs ys
+  pub now : held (w .bytes) (w .fill) ≡ some (growAll st ys)
+
+grown-held : (w : Written) (st : Statement) (xs : List (Addition Operation)) → held (w .bytes) (w .fill) ≡ some st → Done w xs → Grown (handAll w xs) st xs
+unfolding handAll growAll
 grown-held w st [] e d = record { ys = []; parts = no-part; now = e }
-grown-held w st (operation p ∷ xs) e (next-done z d) =
-    let a = add-filled withOperation (w .bytes) (w .fill) p (done-now (handIn w (operation p)) xs d) in
-    let same : a .before ≡ st = Option·some-injective (a .before) st (sym (a .was) ∙ e) in
-    let n : held (handIn w (operation p) .bytes) (handIn w (operation p) .fill) ≡ some (withOperation st (a .addition)) = filled-held (w .bytes) _ (handIn w (operation p)) (a .now) ∙ ap (λ (x : Statement). some (withOperation x (a .addition))) same in
-    let r = grown-held (handIn w (operation p)) (withOperation st (a .addition)) xs n d in
-    record { ys = operation (a .addition) ∷ r .ys; parts = operation-part (a .part) (r .parts); now = r .now }
-grown-held w st (branch p ∷ xs) e (next-done z d) =
-    let a = add-filled withBranch (w .bytes) (w .fill) p (done-now (handIn w (branch p)) xs d) in
-    let same : a .before ≡ st = Option·some-injective (a .before) st (sym (a .was) ∙ e) in
-    let n : held (handIn w (branch p) .bytes) (handIn w (branch p) .fill) ≡ some (withBranch st (a .addition)) = filled-held (w .bytes) _ (handIn w (branch p)) (a .now) ∙ ap (λ (x : Statement). some (withBranch x (a .addition))) same in
-    let r = grown-held (handIn w (branch p)) (withBranch st (a .addition)) xs n d in
-    record { ys = branch (a .addition) ∷ r .ys; parts = branch-part (a .part) (r .parts); now = r .now }
+grown-held w st (x ∷ xs) e (next-done z d) =
+    let t = taken w st x e (done-now (handIn w x) xs d) in
+    let r = grown-held (handIn w x) (grow st (t .y)) xs (t .now) d in
+    record { ys = t .y ∷ r .ys; parts = t .part (r .parts); now = r .now }
 
 -- the filled bytes are a legal body of this host and process, whose additions are the parts that were handed in
 pub record ReadBack (h p : ℕ) (g : Operation) (xs : List (Addition Operation)) (w : Written) : Type 0 where
@@ -175,20 +188,31 @@ pub record ReadBack (h p : ℕ) (g : Operation) (xs : List (Addition Operation))
   pub process : statement .process ≡ p
   pub parts : Parts (branch g ∷ xs) (additions (statement .branches))
 
+-- a begin that was done, and what was answered 0 after it
+module _ (buffer : List ℕ) (h p : ℕ) (g : Operation) (z : beginOn buffer h p g .answer ≡ 0) where
+  abbrev pub first : Statement
+  first = begun h p (begin-filled buffer h p g z .guard)
+
+  pub begun-held : held (beginOn buffer h p g .bytes) (beginOn buffer h p g .fill) ≡ some first
+  begun-held = filled-held buffer first (beginOn buffer h p g) (begin-filled buffer h p g z .now)
+
+  pub read-back : (xs : List (Addition Operation)) (w : Written) → Grown w first xs → ReadBack h p g xs w
+  unfolding additions begun
+  read-back xs w r =
+      let a = begin-filled buffer h p g z in
+      let ys : List (Addition model.Operation) = r .ys in
+      let adds : branch (a .guard) ∷ ys ≡ additions (growAll first ys .branches) = sym (additions-all first ys (omega arith)) in
+      record {
+        statement = growAll first ys;
+        parses = held-some (w .bytes) (w .fill) (growAll first ys) (r .now) .parses;
+        host = host-all first ys;
+        process = process-all first ys;
+        parts = subst (Parts (branch g ∷ xs)) adds (branch-part (a .was) (r .parts));
+      }
+
 -- Whatever is handed in, if each answer is 0 then what the filled bytes are read as is exactly that.
 pub written-read : (buffer : List ℕ) (h p : ℕ) (g : Operation) (xs : List (Addition Operation)) → Done (beginOn buffer h p g) xs → ReadBack h p g xs (handAll (beginOn buffer h p g) xs)
-unfolding additions begun
 written-read buffer h p g xs d =
-    let a = begin-filled buffer h p g (done-now (beginOn buffer h p g) xs d) in
-    let first : Statement = begun h p (a .guard) in
-    let r = grown-held (beginOn buffer h p g) first xs (filled-held buffer first (beginOn buffer h p g) (a .now)) d in
-    let w : Written = handAll (beginOn buffer h p g) xs in
-    let ys : List (Addition model.Operation) = r .ys in
-    let adds : branch (a .guard) ∷ ys ≡ additions (growAll first ys .branches) = sym (additions-all first ys (omega arith)) in
-    record {
-      statement = growAll first ys;
-      parses = held-some (w .bytes) (w .fill) (growAll first ys) (r .now) .parses;
-      host = host-all first ys;
-      process = process-all first ys;
-      parts = subst (Parts (branch g ∷ xs)) adds (branch-part (a .was) (r .parts));
-    }
+    let w : Written = beginOn buffer h p g in
+    let z = done-now w xs d in
+    read-back buffer h p g z xs (handAll w xs) (grown-held w (first buffer h p g z) xs (begun-held buffer h p g z) d)

@@ -1,6 +1,7 @@
 pub mod At
 pub mod Binds
 pub mod BranchAt
+pub mod Codes
 pub mod Ends
 pub mod Fields
 pub mod Fixed

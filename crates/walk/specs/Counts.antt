@@ -1,13 +1,10 @@
 -- Where the operation count of a statement's last branch stands in its bytes. Assumes nothing.
 use mathlib.Core.Path.{_≡_, refl}
 use mathlib.Core.List.{List, [], _∷_}
-use Prim.Native.Nat.{ℕ, _+_, _≤_}
+use Prim.Native.Nat.{ℕ, _+_}
 use lib.ListN.{length}
-use lib.Dec.{T, leb→le}
-use Rattle.basis.specs.Logic.{and-l, and-r}
 use Rattle.basis.specs.Sizes.{branchesAt}
 use Rattle.model.specs.Statement.{Branch, Statement}
-use Rattle.model.specs.Legal.{legalStatement}
 use Rattle.model.specs.Writing.{operationBytes, branchBytes}
 
 -- the bytes of branches before the operation count of the last one
@@ -23,7 +20,3 @@ before-more b c bs = refl
 -- the index of the operation count of the last branch
 unfoldable pub countAt : Statement → ℕ
 countAt st = branchesAt + beforeCount (st .branches)
-
-pub legal-some : (st : Statement) → T (legalStatement st) → 1 ≤ length (st .branches)
-unfolding legalStatement
-legal-some st t = leb→le 1 (length (st .branches)) (search (and-l, and-r, t) depth 16)

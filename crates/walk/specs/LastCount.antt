@@ -1,47 +1,31 @@
 -- The walk to the operation count of a legal body's last branch. Assumes nothing.
 use mathlib.Core.Path.{_≡_, refl, sym, ap, _∙_}
-use mathlib.Core.Bool.{true, true≢false}
-use mathlib.Core.Option.{Option, none, some, Option·some-injective, Option·none-ne-some}
+use mathlib.Core.Option.{some}
 use mathlib.Core.List.{List, [], _∷_}
-use Prim.Native.Nat.{ℕ, zero, suc, _+_, _-_, _≤_, _<_}
+use Prim.Native.Nat.{ℕ, suc, _+_, _-_, _≤_, _<_}
 use native.Mathlib.Omega.{arith}
 use lib.ListN.{length, drop, getD, length-append, length-drop}
 use lib.Dec.{T, leb→le}
 use lib.Pow.{areBytes}
-use Rattle.basis.specs.Choice.{isSome}
 use Rattle.basis.specs.Logic.{and-l, and-r}
-use Rattle.basis.specs.Lists.{all}
 use Rattle.basis.specs.NumberLaws.{bytes-drop}
-pub use Rattle.basis.specs.NumberLaws.{bytes-of as bytes-below}
 use Rattle.basis.specs.Sizes.{mostOperations, branchCountAt, branchesAt}
-use Rattle.model.specs.Statement.{Operation, Branch, operations, Statement}
-use Rattle.model.specs.Legal.{legalBranch, legalStatement, parse, legalBody}
-use Rattle.model.specs.Reading.{Reader, several, operation, branch}
+use Rattle.model.specs.Statement.{Branch, Statement}
+use Rattle.model.specs.Legal.{legalBranch, parse, legalBody}
+use Rattle.model.specs.Reading.{Reader, operation, branch}
 use Rattle.model.specs.Writing.{operationBytes, branchBytes}
-use Rattle.model.specs.ReadBack.{Writes, writes-operation, writes-branch, several-length}
+use Rattle.model.specs.ReadBack.{Writes, writes-operation, writes-branch}
 use Rattle.statements.specs.At.{position}
 use Rattle.statements.specs.Flat.{operationAt, bareAt, bareIs}
-use Rattle.statements.specs.Ends.{endAt}
+use Rattle.layout.specs.Stored.{statementOf, statement-of}
+use Rattle.statements.specs.Ends.{endAt, position-is}
 use Rattle.walk.specs.BranchEnds.{fewIn}
 use Rattle.statements.specs.declared.Bare.{Bare}
 use Rattle.walk.specs.Branches.{suffix-branch}
 use Rattle.walk.specs.LegalEnds.{legal-end}
-use Rattle.walk.specs.BodyParts.{body-parts}
 use Rattle.walk.specs.Standing.{first-of, no-items}
-use Rattle.walk.specs.Walk.{Branches, branchesFrom, body-branches, pass-branch}
-use Rattle.walk.specs.Counts.{beforeCount, before-more, countAt, legal-some}
-
--- a legal body is some statement's
-pub body-some : (b : List ℕ) → legalBody b ≡ true → (st : Statement) × (parse b ≡ some st)
-unfolding legalBody isSome
-body-some b e = go (parse b) refl e
-  where
-    go : (o : Option Statement) → parse b ≡ o → isSome o ≡ true → (st : Statement) × (parse b ≡ some st)
-    go none q e = absurd (true≢false (sym e))
-    go (some st) q e = (st, q)
-
-pub body-long : (b : List ℕ) → legalBody b ≡ true → branchesAt ≤ length b
-body-long b e = let st = body-some b e in body-parts b (st .0) (st .1) .long
+use Rattle.walk.specs.Walk.{Branches, branchesFrom, body-is, body-branches, body-count, pass-branch}
+use Rattle.walk.specs.Counts.{beforeCount, before-more, countAt}
 
 -- the index of that count, and how far it can be raised
 pub record LastCount (b : List ℕ) (at : ℕ) : Type 0 where
@@ -57,30 +41,23 @@ ends-after p write w b at end a t h k e =
     omega (arith, l, length-drop at b, length-drop end b)
 
 -- the branches before the last that were passed, and those that stand from an index on
-pub record Reached (b : List ℕ) (count : ℕ) (st : Statement) (at i : ℕ) : Type 0 where
+pub record Reached (b : List ℕ) (count at i : ℕ) : Type 0 where
   pub few : i ≤ count
   pub within : at ≤ length b
   pub ahead : Branches b at (suc (count - i))
-  pub is : at + beforeCount (branchesFrom b at (suc (count - i))) ≡ countAt st
+  pub is : at + beforeCount (branchesFrom b at (suc (count - i))) ≡ countAt (statementOf b)
 
-pub reached-start : (b : List ℕ) (st : Statement) (count : ℕ) → parse b ≡ some st → count ≡ getD b branchCountAt 0 → Reached b count st branchesAt 1
+pub reached-start : (b : List ℕ) (count : ℕ) → T (legalBody b) → count ≡ getD b branchCountAt 0 → Reached b count branchesAt 1
 unfolding countAt
-reached-start b st count e q =
-    let p = body-parts b st e in
-    let y = body-branches b st p in
-    let n : length (st .branches) ≡ getD b branchCountAt 0 = several-length branch (getD b branchCountAt 0) (drop branchesAt b) [] (st .branches) (p .branches) in
-    let m : suc (count - 1) ≡ getD b branchCountAt 0 = omega (arith, legal-some st (p .legal)) in
-    record { few = omega (arith, legal-some st (p .legal)); within = p .long; ahead = rw m (y .stands); is = rw (m, y .items) }
-
--- the one position that was found
-position-is : (end at : ℕ) → position end ≡ some at → end ≡ at
-unfolding position
-position-is zero at e = absurd (Option·none-ne-some at e)
-position-is (suc end) at e = Option·some-injective (suc end) at e
+reached-start b count t q =
+    let p = body-is b t in
+    let y = body-branches b (statementOf b) p in
+    let m : suc (count - 1) ≡ getD b branchCountAt 0 = omega (arith, body-count b t) in
+    record { few = omega (arith, body-count b t); within = p .long; ahead = rw m (y .stands); is = rw (m, y .items) }
 
 -- a branch is passed that is not the last
-pub reached-turn : (b : List ℕ) (count : ℕ) (st : Statement) (at i end : ℕ) → T (areBytes b) → i < count → Reached b count st at i → position end ≡ endAt branch fewIn b at → Reached b count st end (i + 1)
-reached-turn b count st at i end t h r e =
+pub reached-turn : (b : List ℕ) (count at i end : ℕ) → T (areBytes b) → i < count → Reached b count at i → position end ≡ endAt branch fewIn b at → Reached b count end (i + 1)
+reached-turn b count at i end t h r e =
     let x = first-of branch suffix-branch legalBranch b at (count - i) (r .ahead) in
     let stop : end ≡ x .end = position-is end (x .end) (e ∙ legal-end b at (x .end) (x .item) (x .reads) (x .within) (x .passes)) in
     let size : x .end ≡ at + length (branchBytes (x .item)) = ends-after branch branchBytes writes-branch b at (x .end) (x .item) t (r .within) (x .within) (x .reads) in
@@ -101,15 +78,11 @@ unfolding beforeCount
 before-last x = refl
 
 -- the last branch is reached: its guard ends where its count stands
-pub reached-last : (b : List ℕ) (count at i : ℕ) (r : Bare) → T (areBytes b) → legalBody b ≡ true → count ≤ i → ((st : Statement) → parse b ≡ some st → Reached b count st at i)
-    → bareIs r ≡ bareAt (operationAt b at) → LastCount b (r .end)
-reached-last b count at i r t l h w e = let st = body-some b l in at-end (st .0) (st .1) (w (st .0) (st .1))
-  where
-    at-end : (st : Statement) → parse b ≡ some st → Reached b count st at i → LastCount b (r .end)
-    at-end st q k =
-        let x = pass-branch b at (count - i) (k .ahead) r e .0 in
-        let m : count - i ≡ 0 = omega arith in
-        let only : branchesFrom b at (suc (count - i)) ≡ x .first ∷ [] = x .items ∙ ap (λ (n : ℕ). x .first ∷ branchesFrom b (x .stop) n) m ∙ ap (λ (l : List Branch). x .first ∷ l) (no-items branch b (x .stop)) in
-        let size : r .end ≡ at + length (operationBytes (x .first .guard)) = ends-after operation operationBytes writes-operation b at (r .end) (x .first .guard) t (k .within) (omega (arith, x .long)) (x .guard) in
-        let here : r .end ≡ countAt st = size ∙ ap (λ (n : ℕ). at + n) (sym (ap beforeCount only ∙ before-last (x .first))) ∙ k .is in
-        record { within = x .long; few = omega (arith, x .count, few-body (x .first) (x .legal)); is = λ st′ q′. here ∙ ap countAt (Option·some-injective st st′ (sym q ∙ q′)) }
+pub reached-last : (b : List ℕ) (count at i : ℕ) (r : Bare) → T (areBytes b) → T (legalBody b) → count ≤ i → Reached b count at i → bareIs r ≡ bareAt (operationAt b at) → LastCount b (r .end)
+reached-last b count at i r t l h k e =
+    let x = pass-branch b at (count - i) (k .ahead) r e .0 in
+    let m : count - i ≡ 0 = omega arith in
+    let only : branchesFrom b at (suc (count - i)) ≡ x .first ∷ [] = x .items ∙ ap (λ (n : ℕ). x .first ∷ branchesFrom b (x .stop) n) m ∙ ap (λ (l : List Branch). x .first ∷ l) (no-items branch b (x .stop)) in
+    let size : r .end ≡ at + length (operationBytes (x .first .guard)) = ends-after operation operationBytes writes-operation b at (r .end) (x .first .guard) t (k .within) (omega (arith, x .long)) (x .guard) in
+    let here : r .end ≡ countAt (statementOf b) = size ∙ ap (λ (n : ℕ). at + n) (sym (ap beforeCount only ∙ before-last (x .first))) ∙ k .is in
+    record { within = x .long; few = omega (arith, x .count, few-body (x .first) (x .legal)); is = λ st q. here ∙ ap countAt (statement-of b st q) }

@@ -5,6 +5,5 @@ pub mod Choosing
 pub mod Counts
 pub mod LastCount
 pub mod LegalEnds
-pub mod Positions
 pub mod Standing
 pub mod Walk

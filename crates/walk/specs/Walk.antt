@@ -2,8 +2,7 @@
 use mathlib.Core.Path.{_≡_, refl, sym, ap, subst, _∙_}
 use Prim.Native.Nat.{ℕ, zero, suc, _+_, _-_, _≤_, _<_}
 use native.Mathlib.Omega.{arith}
-use mathlib.Core.Bool.{true}
-use mathlib.Core.Option.{Option, none, some, Option·some-injective, Option·none-ne-some}
+use mathlib.Core.Option.{some, Option·some-injective, Option·none-ne-some}
 use mathlib.Core.List.{List, [], _∷_}
 use lib.ListN.{length, drop, getD, length-drop}
 use lib.Dec.{T, ltb→lt}
@@ -11,12 +10,13 @@ use Rattle.basis.specs.Choice.{provided}
 use Rattle.basis.specs.Logic.{and-l, and-r, is-true}
 use Rattle.basis.specs.Lists.{all}
 use Rattle.basis.specs.Sizes.{hosts, hostAt, countWidth, branchCountAt, branchesAt}
-use Rattle.model.specs.Statement.{Operation, Branch, operations, Statement}
+use Rattle.model.specs.Statement.{Operation, Branch, Statement}
 use Rattle.model.specs.Legal.{legalBranch, legalStatement, legalBody}
 use Rattle.model.specs.Reading.{several, operation, branch}
+use Rattle.model.specs.ReadBack.{several-length}
 use Rattle.layout.specs.Stored.{statementOf, legal-parse}
-use Rattle.statements.specs.At.{readAt, passed, some-readAt, found, position, suffix-at, suffix-several}
-use Rattle.statements.specs.Ends.{endAt, endOf, end-of}
+use Rattle.statements.specs.At.{passed, some-readAt, found, position, suffix-at, suffix-several}
+use Rattle.statements.specs.Ends.{endAt, end-of, position-is}
 use Rattle.statements.specs.BranchAt.{BranchAt, branch-at}
 use Rattle.statements.specs.Operations.{suffix-operation}
 use Rattle.statements.specs.Flat.{operationOf, operationIs, readIs, Reads, fewFields, operationAt, bare, bareAt, bareIs}
@@ -24,8 +24,7 @@ use Rattle.statements.specs.declared.Bare.{Bare}
 use Rattle.statements.specs.declared.OperationRead.{OperationRead}
 use Rattle.walk.specs.BodyParts.{BodyParts, body-parts}
 use Rattle.walk.specs.Branches.{suffix-branch}
-use Rattle.walk.specs.BranchEnds.{fewIn}
-use Rattle.walk.specs.LegalEnds.{legal-fewIn}
+use Rattle.walk.specs.LegalEnds.{legal-some, legal-branches, few-parts}
 use Rattle.walk.specs.Standing.{itemsAt, leftAt, Stands, StandAs, stand-as, First, first-of}
 
 -- ---- what stands ahead
@@ -116,10 +115,6 @@ operations-past b at count end h e =
     let same : end ≡ length b - length left = position-is end (length b - length left) (e ∙ stop) in
     let last : drop (length b - length left) b ≡ left = suffix-at (several operation count) (suffix-several operation suffix-operation count) b at (operationsAt b at count) left (h .reads) in
     (ap (λ (n : ℕ). drop n b) same ∙ last, omega (arith, same))
-  where
-    position-is : (end stop : ℕ) → position end ≡ some stop → end ≡ stop
-    position-is zero stop e = unfold position in absurd (Option·none-ne-some stop e)
-    position-is (suc end) stop e = unfold position in Option·some-injective (suc end) stop e
 
 -- ---- one branch, then those after it
 
@@ -146,11 +141,6 @@ ReadBranch b at count r = (h : NextBranch b at count (r .end)) × (operationIs (
 
 abbrev pub PassedBranch : List ℕ → (at count : ℕ) → Bare → Type 0
 PassedBranch b at count r = (h : NextBranch b at count (r .end)) × (operationOf (r .code) (r .from) (r .to) [] ≡ bare (h .first .guard))
-
--- at most six fields in every operation of a legal branch
-few-parts : (br : Branch) → T (legalBranch br) → T (fewFields (br .guard)) × T (all fewFields (br .body))
-unfolding fewIn operations all
-few-parts br t = let few = legal-fewIn br t in (and-l (fewFields (br .guard)) (all fewFields (br .body)) few, and-r (fewFields (br .guard)) (all fewFields (br .body)) few)
 
 module _ (b : List ℕ) (at count : ℕ) (h : Branches b at (suc count)) where
   abbrev one-branch : First branch legalBranch b at count
@@ -206,8 +196,13 @@ pub body-is : (b : List ℕ) → T (legalBody b) → BodyParts b (statementOf b)
 body-is b t = body-parts b (statementOf b) (legal-parse b t)
 
 pub body-branches : (b : List ℕ) (st : Statement) → BodyParts b st → StandAs branch legalBranch b branchesAt (getD b branchCountAt 0) (st .branches) []
-unfolding legalStatement
-body-branches b st h = stand-as branch legalBranch b branchesAt (getD b branchCountAt 0) (st .branches) [] (h .branches) (let t : T (legalStatement st) = h .legal in search (and-l, and-r, t) depth 16)
+body-branches b st h = stand-as branch legalBranch b branchesAt (getD b branchCountAt 0) (st .branches) [] (h .branches) (legal-branches st (h .legal))
+
+-- there is one at least
+pub body-count : (b : List ℕ) → T (legalBody b) → 1 ≤ getD b branchCountAt 0
+body-count b t =
+    let h = body-is b t in
+    omega (arith, legal-some (statementOf b) (h .legal), several-length branch (getD b branchCountAt 0) (drop branchesAt b) [] (statementOf b .branches) (h .branches))
 
 pub body-host-small : (b : List ℕ) → T (legalBody b) → getD b hostAt 0 < hosts
 unfolding legalStatement

@@ -1,9 +1,8 @@
 -- Parts that are an operation: what it has after its code. Assumes nothing.
-use mathlib.Core.Path.{_≡_, refl}
+use mathlib.Core.Path.{_≡_}
 use mathlib.Core.Bool.{true, _&&_}
 use mathlib.Core.Logic.{_⊎_, inl, inr}
-use mathlib.Core.List.{List, [], _∷_}
-use Prim.Native.Nat.{ℕ, zero, suc, _≤_, _<_}
+use Prim.Native.Nat.{_≤_, _<_}
 use native.Mathlib.Omega.{arith}
 use lib.ListN.{take}
 use lib.Dec.{T, ltb, leb, eqb, ltb→lt, leb→le, eqb→eq}
@@ -11,10 +10,10 @@ use borrow.Author.Tests.{lt-ltb}
 use Rattle.basis.specs.Logic.{and-l, and-r, or-cases, true-is}
 use Rattle.basis.specs.Lists.{all}
 use Rattle.basis.specs.Sizes.{mostFields, spaceNumbers}
-use Rattle.model.specs.Statement as model
 use Rattle.model.specs.Statement.{spacesOf}
 use Rattle.model.specs.Legal.{isSpace}
 use Rattle.statements.specs.At.{which}
+use Rattle.statements.specs.Codes.{spaces-one, spaces-two}
 use Rattle.statements.specs.declared.Operation.{Operation}
 use Rattle.statements.specs.Flat.{codes, forms, hasForm, fieldsAre, operationOf, operationIs}
 use Rattle.writer.specs.Writer.{trueCode, twoSpaces, isHanded}
@@ -25,27 +24,6 @@ pub record HasParts (o : Operation) : Type 0 where
   pub count : o .count ≤ mostFields
   pub forms : T (all hasForm (take (o .count) (o .fields)))
   pub spaces : T (all isSpace (spacesOf (operationIs o)))
-
-pub spaces-one : (code from to : ℕ) (fs : List model.Field) → 0 < code → code < twoSpaces → spacesOf (operationOf code from to fs) ≡ from ∷ []
-unfolding operationOf spacesOf
-spaces-one zero from to fs l h = absurd (omega arith)
-spaces-one (suc zero) from to fs l h = refl
-spaces-one (suc (suc zero)) from to fs l h = refl
-spaces-one (suc (suc (suc zero))) from to fs l h = refl
-spaces-one (suc (suc (suc (suc zero)))) from to fs l h = refl
-spaces-one (suc (suc (suc (suc (suc zero))))) from to fs l h = refl
-spaces-one (suc (suc (suc (suc (suc (suc n)))))) from to fs l h = absurd (omega arith)
-
-pub spaces-two : (code from to : ℕ) (fs : List model.Field) → twoSpaces ≤ code → spacesOf (operationOf code from to fs) ≡ from ∷ to ∷ []
-unfolding operationOf spacesOf
-spaces-two zero from to fs h = absurd (omega arith)
-spaces-two (suc zero) from to fs h = absurd (omega arith)
-spaces-two (suc (suc zero)) from to fs h = absurd (omega arith)
-spaces-two (suc (suc (suc zero))) from to fs h = absurd (omega arith)
-spaces-two (suc (suc (suc (suc zero)))) from to fs h = absurd (omega arith)
-spaces-two (suc (suc (suc (suc (suc zero))))) from to fs h = absurd (omega arith)
-spaces-two (suc (suc (suc (suc (suc (suc zero)))))) from to fs h = refl
-spaces-two (suc (suc (suc (suc (suc (suc (suc n))))))) from to fs h = refl
 
 handed-parts : (o : Operation) → T (isHanded o) → (o .code ≡ trueCode → ⊥) → T (ltb (o .code) codes && leb (o .count) mostFields && all hasForm (take (o .count) (o .fields)))
 unfolding isHanded

@@ -2,18 +2,22 @@
 use Prim.Native.Nat.{_-_}
 use denote.Ref.{now}
 use borrow.Author.Needs.{needs}
-use Rattle.bodies.specs.Walking.{Walking, walking-start, walking-turn, walking-stop, walking-done}
+use Rattle.model.specs.Reading.{operation}
+use Rattle.statements.specs.Ends.{Passing, passing-start, passing-turn, passing-stop, passing-done}
+use Rattle.fields.specs.Kinds.{kindsAre}
+use Rattle.legality.specs.Steps.{bodyLegal}
+use Rattle.bodies.specs.BranchLaws.{body-none, step-passes, step-stops}
 use Rattle.bodies.proofs.operations_ok.Statement.{statement}
 use Rattle.bodies.proofs.operations_ok.Tie as tie
 
 abbrev Inv-loop : tie.InvT-loop
-Inv-loop b at count now₀ end₀ i₀ now end i = Walking b at count now₀ now end i
+Inv-loop b at count now₀ end₀ i₀ now end i = Passing operation (bodyLegal (kindsAre now₀)) (bodyLegal (kindsAre now)) b at count end i
 
 abbrev μ-loop : tie.MeasureT-loop
 μ-loop b at count now₀ end₀ i₀ now end i = count - i
 
 loop-holds : tie.Need-loop-holds Inv-loop μ-loop
-loop-holds c = let s = c .before in walking-start _ _ _ _ (s .pre .0) (s .pre .1)
+loop-holds c = let s = c .before in passing-start operation (bodyLegal (kindsAre (s .args .kinds))) _ _ _ (s .pre .0) (s .pre .1)
 
 operation-step-requires : tie.Need-operation-step-requires Inv-loop μ-loop
 operation-step-requires c κs = search needs
@@ -22,7 +26,8 @@ returns : tie.Need-returns Inv-loop μ-loop
 returns c = let k = c .before in
     let l = k .before .before in
     let s = l .before .before in
-    walking-stop (denote.Ref.now (s .args .b)) (s .args .at) (s .args .count) (s .args .kinds) (l .loop .now) (l .loop .end) (l .loop .i) (k .operation-step .result) (k .before .loop-test .taken) (l .loop .inv) (k .operation-step .ensures) (c .if1 .taken)
+    passing-stop operation (bodyLegal (kindsAre (s .args .kinds))) (bodyLegal (kindsAre (l .loop .now))) (denote.Ref.now (s .args .b)) (s .args .at) (s .args .count) (l .loop .end) (l .loop .i) (l .loop .inv) (k .before .loop-test .taken)
+    (step-stops (kindsAre (l .loop .now)) (denote.Ref.now (s .args .b)) (l .loop .end) (k .operation-step .result) (k .operation-step .ensures) (c .if1 .taken))
 
 add-i : tie.Need-add-i Inv-loop μ-loop
 add-i c = search needs
@@ -34,12 +39,13 @@ loop-again : tie.Need-loop-again Inv-loop μ-loop
 loop-again c = let k = c .before .before in
     let l = k .before .before in
     let s = l .before .before in
-    walking-turn (denote.Ref.now (s .args .b)) (s .args .at) (s .args .count) (s .args .kinds) (l .loop .now) (l .loop .end) (l .loop .i) (k .operation-step .result) (k .before .loop-test .taken) (l .loop .inv) (k .operation-step .ensures) (c .before .if1 .left)
+    passing-turn operation (bodyLegal (kindsAre (s .args .kinds))) (bodyLegal (kindsAre (l .loop .now))) (denote.Ref.now (s .args .b)) (s .args .at) (s .args .count) (l .loop .end) (l .loop .i) (l .loop .inv) (bodyLegal (kindsAre (k .operation-step .result .kinds))) (k .operation-step .result .end) (k .before .loop-test .taken)
+    (step-passes (kindsAre (l .loop .now)) (denote.Ref.now (s .args .b)) (l .loop .end) (k .operation-step .result) (k .operation-step .ensures) (c .before .if1 .left))
 
 returns-2 : tie.Need-returns-2 Inv-loop μ-loop
 returns-2 c = let l = c .before in
     let s = l .before .before in
-    walking-done (denote.Ref.now (s .args .b)) (s .args .at) (s .args .count) (s .args .kinds) (l .loop .now) (l .loop .end) (l .loop .i) (c .loop-test .left) (l .loop .inv)
+    passing-done operation (bodyLegal (kindsAre (s .args .kinds))) (bodyLegal (kindsAre (l .loop .now))) (denote.Ref.now (s .args .b)) (s .args .at) (s .args .count) (l .loop .end) (l .loop .i) (l .loop .inv) (c .loop-test .left) (body-none (kindsAre (l .loop .now)))
 
 pub operations-ok-spec : {M : Type 1} → statement M
 operations-ok-spec =

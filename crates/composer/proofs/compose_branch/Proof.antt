@@ -5,7 +5,7 @@ use lib.ListN.{length-set}
 use borrow.Author.Needs.{needs}
 use Rattle.basis.specs.Sizes.{branchCountAt}
 use Rattle.composer.specs.Grown.{raised}
-use Rattle.walk.specs.LastCount.{bytes-below}
+use Rattle.basis.specs.NumberLaws.{bytes-of}
 use Rattle.composer.specs.Composed.{held-bytes, copied-at, composed-branch}
 use Rattle.composer.proofs.compose_branch.Statement.{statement}
 use Rattle.composer.proofs.compose_branch.Tie as tie
@@ -64,7 +64,7 @@ returns c =
     let k = q .before .before .before .before .before in
     let s = k .before .before .before .before in
     let a = s .args in
-    composed-branch (now (a .t)) (k .copy-part .last .0) (now (a .buffer)) (a .fill) (a .guard) (s .pre .0) (k .copy-part .ensures) (bytes-below (now (a .buffer)) (λ i. k .before .before .shared-slice-known .given i .fits)) (s .pre .1)
+    composed-branch (now (a .t)) (k .copy-part .last .0) (now (a .buffer)) (a .fill) (a .guard) (s .pre .0) (k .copy-part .ensures) (bytes-of (now (a .buffer)) (λ i. k .before .before .shared-slice-known .given i .fits)) (s .pre .1)
     (q .put-operation .last .0) (q .put-operation .result) (q .put-operation .ensures)
 
 pub compose-branch-spec : {M : Type 1} → statement M

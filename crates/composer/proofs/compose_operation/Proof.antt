@@ -5,7 +5,7 @@ use denote.Ref.{now}
 use lib.ListN.{length-set}
 use lib.Seq.{length-take-le}
 use Rattle.composer.specs.Grown.{raised}
-use Rattle.walk.specs.LastCount.{bytes-below}
+use Rattle.basis.specs.NumberLaws.{bytes-of}
 use Rattle.composer.specs.Composed.{held-bytes, copied-at, composed-operation}
 use Rattle.writer.specs.HeldLaws.{body-held}
 use Rattle.composer.proofs.compose_operation.Statement.{statement}
@@ -71,7 +71,7 @@ returns c =
     let k = l .before .before .before .before in
     let s = k .before .before .before .before in
     let a = s .args in
-    composed-operation (now (a .t)) (k .copy-part .last .0) (now (a .buffer)) (a .fill) (a .op) (s .pre .0) (k .copy-part .ensures) (bytes-below (now (a .buffer)) (λ i. k .before .before .shared-slice-known .given i .fits)) (s .pre .1)
+    composed-operation (now (a .t)) (k .copy-part .last .0) (now (a .buffer)) (a .fill) (a .op) (s .pre .0) (k .copy-part .ensures) (bytes-of (now (a .buffer)) (λ i. k .before .before .shared-slice-known .given i .fits)) (s .pre .1)
     (l .last-count .result) (q .put-operation .last .0) (q .put-operation .result) (l .last-count .ensures) (q .put-operation .ensures)
 
 pub compose-operation-spec : {M : Type 1} → statement M

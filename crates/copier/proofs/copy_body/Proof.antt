@@ -4,9 +4,13 @@ use mathlib.Core.List.{List, _++_}
 use Prim.Native.Nat.{ℕ, _+_, _≤_, _<_, _-_}
 use native.Mathlib.Omega.{arith}
 use lib.ListN.{length, drop, getD}
+use lib.Dec.{T}
 use denote.Ref.{now}
 use Rattle.basis.specs.Sizes.{branchCountAt, branchesAt, countWidth}
-use Rattle.rewriter.specs.Copying.{Underway, first-within, first-long, first-count, begin-turn, past-body, on-its-own}
+use Rattle.basis.specs.Logic.{true-is}
+use Rattle.model.specs.Legal.{legalBody}
+use Rattle.walk.specs.Walk.{body-is, body-count}
+use Rattle.rewriter.specs.Copying.{Underway, first-within, begin-turn, past-body, on-its-own}
 use borrow.Author.Needs.{needs}
 use Rattle.copier.proofs.copy_body.Statement.{statement}
 use Rattle.copier.proofs.copy_body.Tie as tie
@@ -25,14 +29,17 @@ module _ (r : tie.After-read-operation) where
   byte : (k : ℕ) → getD bytes k 0 < 256
   byte k = r .before .before .shared-slice-known .given k .fits
 
+  is-legal : T (legalBody bytes)
+  is-legal = true-is (legalBody bytes) (start .pre .0)
+
   long : branchesAt ≤ length bytes
-  long = first-long bytes buffer (start .pre .0) byte (start .pre .1) (r .read-operation .result) (r .read-operation .ensures)
+  long = body-is bytes is-legal .long
 
   within : r .read-operation .result .end < length bytes
-  within = first-within bytes buffer (start .pre .0) byte (start .pre .1) (r .read-operation .result) (r .read-operation .ensures)
+  within = first-within bytes is-legal (r .read-operation .result) (r .read-operation .ensures)
 
   count : 1 ≤ getD bytes branchCountAt 0
-  count = first-count bytes buffer (start .pre .0) byte (start .pre .1) (r .read-operation .result) (r .read-operation .ensures)
+  count = body-count bytes is-legal
 
 -- the operations of the first branch are handed in
 module _ (n : tie.After-copy-operations) where
@@ -47,7 +54,7 @@ module _ (n : tie.After-copy-operations) where
 
   begun : Underway (bytes r) (buffer r) (r .read-operation .result .end + countWidth) (getD (bytes r) (r .read-operation .result .end) 0) (getD (bytes r) branchCountAt 0 - 1) (w .begin-at .result .fill) (w .begin-at .last .0)
   begun =
-      begin-turn (bytes r) (buffer r) (start r .pre .0) (byte r) (start r .pre .1) (r .read-operation .result) (r .read-operation .ensures)
+      begin-turn (bytes r) (is-legal r) (r .read-operation .result) (r .read-operation .ensures) (buffer r) (byte r) (start r .pre .1)
       _ _ refl (w .before .before .before .word2 .ensures) (w .begin-at .result) (w .begin-at .last .0) (w .begin-at .ensures)
 
   first : Underway (bytes r) (buffer r) (n .copy-operations .result .at) 0 (getD (bytes r) branchCountAt 0 - 1) (n .copy-operations .result .fill) (n .copy-operations .last .1 .1 .1 .0)
