@@ -1,6 +1,6 @@
 -- An operation at a position: its code, its spaces, its field count, and its fields. Assumes nothing.
 use mathlib.Core.Path.{_≡_, refl, sym, ap, _∙_}
-use Prim.Native.Nat.{ℕ, zero, suc, _+_, _-_, _≤_, _<_}
+use Prim.Native.Nat.{ℕ, zero, suc, _+_, _≤_, _<_}
 use native.Mathlib.Omega.{arith}
 use mathlib.Core.Bool.{Bool, true, false, cond}
 use mathlib.Core.Logic.{_⊎_, inl, inr}
@@ -17,11 +17,10 @@ use Rattle.model.specs.Statement.{always, lookup, deposit, transfer}
 use Rattle.model.specs.Legal.{fieldsOf}
 use Rattle.model.specs.Reading.{Reader, _>>=_, give, refuse, byte, natural, several, counted, chosenBy, field, onSpace, onSpaces, operation}
 use Rattle.model.specs.ReadBack.{several-length}
-use Rattle.statements.specs.At.{which, Suffix, suffix-give, suffix-refuse, suffix-byte, suffix-then, suffix-last, suffix-counted, placed, readAt, passed, found, some-readAt}
+use Rattle.statements.specs.At.{which, Suffix, suffix-give, suffix-refuse, suffix-byte, suffix-then, suffix-last, suffix-counted, placed, readAt, passed, some-readAt}
 use Rattle.statements.specs.Fixed.{fixed-byte, fixed-natural}
 use Rattle.statements.specs.Several.{suffix-field}
-use Rattle.statements.specs.Flat.{codes, fieldsAre, fieldsRead, operationOf, fewFields, operationAt}
-use Rattle.statements.specs.declared.FieldsRead.{FieldsRead}
+use Rattle.statements.specs.Flat.{codes, operationOf, fewFields, operationAt}
 
 -- ---- what is left is a last part
 

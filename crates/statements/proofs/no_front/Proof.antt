@@ -1,5 +1,4 @@
 -- `statements::no_front` meets its contract. Assumes nothing.
-use borrow.Author.Needs.{needs}
 use mathlib.Core.Path.{refl}
 use Rattle.statements.specs.Front.{front-none}
 use Rattle.statements.proofs.no_front.Statement.{statement}

@@ -1,7 +1,6 @@
 -- `statements::pass_operation` meets its contract. Assumes nothing.
 use borrow.Author.Needs.{needs}
 use mathlib.Core.Path.{refl, sym, ap, _∙_}
-use native.Mathlib.Omega.{arith}
 use denote.Ref.{now}
 use Rattle.statements.specs.At.{found-none}
 use Rattle.statements.specs.Flat.{bareAt, bareIs}

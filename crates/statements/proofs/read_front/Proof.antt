@@ -1,7 +1,6 @@
 -- `statements::read_front` meets its contract. Assumes nothing.
 use borrow.Author.Needs.{needs}
 use mathlib.Core.Path.{refl, sym}
-use native.Mathlib.Omega.{arith}
 use denote.Ref.{now}
 use Rattle.statements.specs.Flat.{fronts-as}
 use Rattle.statements.specs.Front.{front-always}

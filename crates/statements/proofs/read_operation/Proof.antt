@@ -1,7 +1,6 @@
 -- `statements::read_operation` meets its contract. Assumes nothing.
 use borrow.Author.Needs.{needs}
 use mathlib.Core.Path.{sym}
-use native.Mathlib.Omega.{arith}
 use denote.Ref.{now}
 use Rattle.statements.specs.Flat.{hasForm, operationIs, readIs, reads-as}
 use Rattle.statements.specs.Front.{no-fields, fields-read}
