@@ -1,85 +1,90 @@
 -- Rule 5: a branch as a whole, guard and body, and a statement with it. Assumes nothing.
 use mathlib.Core.Path.{_≡_, refl, sym, ap, subst, _∙_}
-use Prim.Native.Nat.{ℕ, zero, suc, _+_, _-_, _<_}
-use native.Mathlib.Omega.{arith}
+use Prim.Native.Nat.{ℕ, zero, suc, _+_, _≤_, _<_}
 use native.Mathlib.Numerals.{add-one}
-use mathlib.Core.Bool.{_&&_}
-use mathlib.Core.Option.{Option, none, some, Option·map}
-use mathlib.Core.List.{List}
+use mathlib.Core.Option.{Option, none, some, Option·map, Option·some-injective}
+use mathlib.Core.List.{List, [], _∷_}
 use lib.ListN.{length, drop, getD}
 use lib.Dec.{T}
 use Rattle.basis.specs.Choice.{maybe}
-use Rattle.basis.specs.Logic.{and-l, and-r}
-use Rattle.basis.specs.Lists.{Found}
-use Rattle.basis.specs.Sizes.{countWidth}
-use Rattle.basis.specs.ListLaws.{Each}
+use Rattle.basis.specs.Logic.{and-r, both}
+use Rattle.basis.specs.Lists.{all, Found}
+use Rattle.basis.specs.Sizes.{countWidth, mostFields, mostBody}
 use Rattle.model.specs.Statement as Model
 use Rattle.model.specs.Statement.{Branch, operations, Statement}
-use Rattle.model.specs.Reading.{several, operation, branch}
-use Rattle.model.specs.Legal.{Kinds, noKinds, bindKinds, fieldsOf, legalOperation, legalOperations, legalBranch}
+use Rattle.model.specs.Reading.{_>>=_, give, several, branch}
+use Rattle.model.specs.Legal.{noKinds, legalOperations, legalBranch}
 use Rattle.model.specs.Matching.{Tuple, Bindings, unbound}
-use Rattle.model.specs.Execution.{done, failed, perform, andThen, performAll, chosen, Executed, execute, attempt, tuplesAfter}
-use Rattle.model.specs.BoundKinds.{Agree, agree-unbound}
+use Rattle.model.specs.Execution.{Result, performAll, chosen, Executed, execute, attempt, tuplesAfter}
+use Rattle.model.specs.BoundKinds.{agree-unbound}
 use Rattle.statements.specs.declared.OperationRead.{OperationRead}
 use Rattle.statements.specs.Flat.{operationIs, Reads, operationAt}
-use Rattle.tuples.specs.Section as Section
 use Rattle.tuples.specs.Section.{tuplesOf, Holds}
 use Rattle.bindings.specs.declared.Vars.{Vars}
 use Rattle.bindings.specs.Variables.{bindingsOf}
-use Rattle.operations.specs.Performing.{resultIs, Leaves, leaves-failed}
-use Rattle.operations.specs.Codes.{CanPerform}
-use Rattle.engine.specs.Legality.{can-perform, AgreeAfter, perform-agrees}
-use Rattle.engine.specs.Ahead.{operationsAt, Ahead, ahead}
-use Rattle.guards.specs.Branches.{after-guard}
-use Rattle.guards.specs.Searching.{branchAt, branch-is, Chosen, Chooses, nothing, chosen-at}
+use Rattle.walk.specs.Standing.{stand-as}
+use Rattle.walk.specs.Walk.{Branches, operationsAt, NextBranch, read-branch}
+use Rattle.walk.specs.Choosing.{Chosen, Finds, Chooses, nothing, chosen-at}
+use Rattle.operations.specs.Performing.{resultIs, Leaves}
+use Rattle.engine.specs.Ahead.{Due, due}
 
 -- ---- a branch
 
--- its operations are legal for no variable at first
-branch-legal : (br : Branch) → T (legalBranch br) → T (legalOperation noKinds (br .guard)) × T (legalOperations (bindKinds noKinds (fieldsOf (br .guard))) (br .body))
-unfolding legalBranch operations legalOperations
-branch-legal br t =
-    let l : T (legalOperation noKinds (br .guard) && legalOperations (bindKinds noKinds (fieldsOf (br .guard))) (br .body)) = search (and-r, t) depth 4 in (
-      and-l (legalOperation noKinds (br .guard)) (legalOperations (bindKinds noKinds (fieldsOf (br .guard))) (br .body)) l,
-      and-r (legalOperation noKinds (br .guard)) (legalOperations (bindKinds noKinds (fieldsOf (br .guard))) (br .body)) l,
+-- the body of the branch of which this guard was read, and the whole branch
+abbrev pub bodyOf : List ℕ → OperationRead → List Model.Operation
+bodyOf b r = operationsAt b (r .end + countWidth) (getD b (r .end) 0)
+
+abbrev pub branchOf : List ℕ → OperationRead → List Model.Operation
+branchOf b r = operationIs (r .operation) ∷ bodyOf b r
+
+-- it is legal, with no variable bound before its guard
+pub record GuardRead (b : List ℕ) (r : OperationRead) : Type 0 where
+  pub few : r .operation .count ≤ mostFields
+  pub long : r .end < length b
+  pub short : length b ≤ mostBody
+  pub due : Due b (operationIs (r .operation)) (r .end + countWidth) (getD b (r .end) 0) unbound
+
+branch-legal : (br : Branch) → T (legalBranch br) → T (legalOperations noKinds (operations br))
+unfolding legalBranch
+branch-legal br t = search (and-r, t) depth 4
+
+-- the guard of a branch that stands at a position
+guard-read : (b : List ℕ) (at : ℕ) (br : Branch) → Chosen b at br → length b ≤ mostBody → (r : OperationRead) → Reads r (operationAt b at) → GuardRead b r × (operations br ≡ branchOf b r)
+unfolding several _>>=_ give all operations
+guard-read b at br c short r e =
+    let reads : several branch 1 (drop at b) ≡ some (br ∷ [], c .rest) = rw (c .reads) in
+    let h : Branches b at 1 = stand-as branch legalBranch b at 1 (br ∷ []) (c .rest) reads (both (legalBranch br) _ (c .legal) tt) .stands in
+    let g = read-branch b at 0 h r e in
+    let n : NextBranch b at 0 (r .end) = g .0 in
+    let same : n .first ≡ br = ap (λ (x : Branch × List ℕ). x .0) (Option·some-injective (n .first, drop (n .stop) b) (br, c .rest) (sym (n .reads) ∙ c .reads)) in
+    let is : operations (n .first) ≡ branchOf b r = λ i. sym (g .1) i ∷ sym (n .is-body) i in
+    let legal : T (legalOperations noKinds (branchOf b r)) = subst (λ (os : List Model.Operation). T (legalOperations noKinds os)) is (branch-legal (n .first) (n .legal)) in (
+      record { few = e .count; long = n .long; short = short; due = due b (operationIs (r .operation)) (r .end + countWidth) (getD b (r .end) 0) unbound noKinds (n .body) legal agree-unbound },
+      ap operations (sym same) ∙ is,
     )
 
-module _ (b : List ℕ) (at : ℕ) (br : Branch) (c : Chosen b at br) (r : OperationRead) (e : Reads r (operationAt b at)) where
-  parts : (operationIs (r .operation) ≡ br .guard) × (r .end < length b) × (several operation (getD b (r .end) 0) (drop (r .end + countWidth) b) ≡ some (br .body, c .rest))
-  parts = after-guard b at br (c .rest) r (c .reads) (c .legal) e
+-- ---- whole or not at all
 
-  pub branch-long : r .end < length b
-  branch-long = parts .1
+-- "If an operation fails, the whole statement, guard included, changes nothing": the answer is this result, and the section holds the tuples after it
+pub record Whole (x : Result) (ts : List Tuple) (outcome n : ℕ) (v : Vars) (p : List ℕ) : Type 0 where
+  pub is : resultIs outcome (bindingsOf v) (tuplesOf p n) ≡ x
+  pub holds : Holds p n (tuplesAfter ts x)
 
-  pub branch-can : (v : Vars) → bindingsOf v ≡ unbound → CanPerform (bindingsOf v) (operationIs (r .operation))
-  branch-can v u = rw (u, parts .0) (can-perform noKinds unbound (br .guard) (branch-legal br (c .legal) .0) agree-unbound)
+module _ (x : Result) (ts : List Tuple) (outcome m : ℕ) (w : Vars) (q : List ℕ) (h : Leaves x outcome m w q) where
+  -- the branch is done: its tuples are left
+  pub whole-done : outcome ≡ 0 → Whole x ts outcome m w q
+  unfolding resultIs tuplesAfter
+  whole-done z =
+      let same : tuplesOf q m ≡ tuplesAfter ts x = ap (λ (k : ℕ). tuplesAfter ts (resultIs k (bindingsOf w) (tuplesOf q m))) (sym z) ∙ ap (tuplesAfter ts) (h .is) in
+      record { is = h .is; holds = subst (Holds q m) same (h .section) }
 
-  module _ (v : Vars) (u : bindingsOf v ≡ unbound) (ts : List Tuple) (outcome n : ℕ) (w : Vars) (q : List ℕ) (x : Leaves (perform (operationIs (r .operation)) (bindingsOf v) ts) outcome n w q) where
-    performed : perform (br .guard) unbound ts ≡ resultIs outcome (bindingsOf w) (tuplesOf q n)
-    performed = ap (λ (o : Model.Operation). perform o unbound ts) (sym (parts .0)) ∙ ap (λ (bs : Bindings). perform (operationIs (r .operation)) bs ts) (sym u) ∙ sym (x .is)
-
-    -- the guard failed, and so has the branch
-    pub branch-fails : (outcome ≡ 0 → ⊥) → Leaves (performAll (operations br) unbound ts) outcome n w q
-    unfolding operations performAll andThen resultIs
-    branch-fails z = go outcome refl
-      where
-        go : (k : ℕ) → outcome ≡ k → Leaves (performAll (operations br) unbound ts) outcome n w q
-        go zero d = absurd (z d)
-        go (suc k) d =
-            let f : perform (br .guard) unbound ts ≡ failed (suc k) = performed ∙ ap (λ (k : ℕ). resultIs k (bindingsOf w) (tuplesOf q n)) d in
-            rw (f, d) (leaves-failed k n w q)
-
-    -- the guard is done: the body stands ahead, and the branch is what it does from here on
-    pub branch-goes : outcome ≡ 0 → Each Section.Legal ts
-        → (Ahead b (r .end + countWidth) (getD b (r .end) 0) (bindingsOf w)) × (performAll (operations br) unbound ts ≡ performAll (operationsAt b (r .end + countWidth) (getD b (r .end) 0)) (bindingsOf w) (tuplesOf q n))
-    unfolding operations performAll andThen resultIs
-    branch-goes z l =
-        let d : perform (br .guard) unbound ts ≡ done (bindingsOf w) (tuplesOf q n) = performed ∙ ap (λ (k : ℕ). resultIs k (bindingsOf w) (tuplesOf q n)) z in
-        let legal = branch-legal br (c .legal) in
-        let ks : Kinds = bindKinds noKinds (fieldsOf (br .guard)) in
-        let a : Agree ks (bindingsOf w) = subst (AgreeAfter ks) d (perform-agrees (br .guard) noKinds unbound ts (legal .0) l agree-unbound) in
-        let y = ahead b (r .end + countWidth) (getD b (r .end) 0) (bindingsOf w) (br .body) (c .rest) ks (parts .2) (legal .1) a in
-        (y .0, rw (d, y .1))
+  -- the branch failed: the tuples are those before it
+  pub whole-failed : (outcome ≡ 0 → ⊥) → (p : List ℕ) (n : ℕ) → Holds p n ts → Whole x ts outcome n w p
+  whole-failed z p n s = go outcome z (h .is)
+    where
+      go : (k : ℕ) → (k ≡ 0 → ⊥) → resultIs k (bindingsOf w) (tuplesOf q m) ≡ x → Whole x ts k n w p
+      go zero z e = absurd (z refl)
+      go (suc k) z e = unfold resultIs tuplesAfter in record { is = e; holds = subst (λ (y : Result). Holds p n (tuplesAfter ts y)) e s }
 
 -- ---- a statement
 
@@ -88,62 +93,35 @@ unfoldable pub ranIs : (number outcome : ℕ) → Bindings → List Tuple → Op
 ranIs zero outcome bs ts = none
 ranIs (suc k) outcome bs ts = some (record { branch = suc k; result = resultIs outcome bs ts })
 
--- "If an operation fails, the whole statement, guard included, changes nothing": the answer is this, and the section holds the tuples after it
+-- the answer is this, and the section holds the tuples after it
 pub record Attempted (o : Option Executed) (ts : List Tuple) (number outcome n : ℕ) (v : Vars) (p : List ℕ) : Type 0 where
   pub is : ranIs number outcome (bindingsOf v) (tuplesOf p n) ≡ o
   pub holds : Holds p n (maybe o ts (λ x. tuplesAfter ts (x .result)))
 
--- the branch that was chosen
-record Picked (b : List ℕ) (o : Option (Found Branch)) (number at : ℕ) : Type 0 where
-  index : ℕ
-  item : Branch
-  counts : number ≡ suc index
-  is : o ≡ some (record { index = index; item = item })
-  stands : Chosen b at item
+-- the branch that was chosen, of which the guard was read
+pub record ChosenRead (b : List ℕ) (ts : List Tuple) (o : Option (Found Branch)) (number tuple : ℕ) (r : OperationRead) : Type 0 where
+  pub guard : GuardRead b r
+  pub finds : Finds ts (operationIs (r .operation)) tuple
+  pub is : Option·map (execute ts) o ≡ some (record { branch = number; result = performAll (branchOf b r) unbound ts })
 
-picked : (b : List ℕ) (o : Option (Found Branch)) (number at : ℕ) → Chooses b o number at → (number ≡ 0 → ⊥) → Picked b o number at
-picked b o number at (nothing e) z = absurd (z refl)
-picked b o number at (chosen-at {i} {br} e c) z = record { index = i; item = br; counts = add-one i; is = e; stands = c }
+pub chosen-read : (b : List ℕ) (ts : List Tuple) (o : Option (Found Branch)) (number at tuple : ℕ) → Chooses b ts o number at tuple → (number ≡ 0 → ⊥) → length b ≤ mostBody → (r : OperationRead) → Reads r (operationAt b at) → ChosenRead b ts o number tuple r
+unfolding execute operations
+chosen-read b ts o number at tuple (nothing e) z short r q = absurd (z refl)
+chosen-read b ts o number at tuple (chosen-at {i} {br} e c f) z short r q =
+    let g = guard-read b at br c short r q in
+    let guard : br .guard ≡ operationIs (r .operation) = let h = g .1 in cc in
+    record {
+      guard = g .0;
+      finds = subst (λ (o : Model.Operation). Finds ts o tuple) guard f;
+      is = ap (Option·map (execute ts)) e ∙ (λ k. some (record { branch = sym (add-one i) k; result = performAll (g .1 k) unbound ts }));
+    }
 
--- it stands at its position
-pub picked-branch : (b : List ℕ) (o : Option (Found Branch)) (number at : ℕ) → Chooses b o number at → (number ≡ 0 → ⊥) → Chosen b at (branchAt b at)
-picked-branch b o number at h z = let k = picked b o number at h z in subst (Chosen b at) (sym (branch-is b at (k .item) (k .stands))) (k .stands)
-
-module _ (b : List ℕ) (st : Statement) (p : List ℕ) (n : ℕ) (s : Section.Section p n) (number at : ℕ) (h : Chooses b (chosen (tuplesOf p n) st) number at) where
-  abbrev ts : List Tuple
-  ts = tuplesOf p n
-
-  -- no guard holds
-  pub attempt-none : number ≡ 0 → (outcome : ℕ) (v : Vars) → Attempted (attempt ts st) ts number outcome n v p
-  attempt-none z outcome v = go number at h z
-    where
-      go : (m at : ℕ) → Chooses b (chosen ts st) m at → m ≡ 0 → Attempted (attempt ts st) ts m outcome n v p
-      go m at (nothing e) z = unfold ranIs attempt in rw e (record { is = refl; holds = s })
-      go m at (chosen-at e c) z = absurd (omega arith)
-
-  module _ (z : number ≡ 0 → ⊥) (outcome m : ℕ) (w : Vars) (q : List ℕ) (x : Leaves (performAll (operations (branchAt b at)) unbound ts) outcome m w q) where
-    ran : attempt ts st ≡ some (record { branch = number; result = resultIs outcome (bindingsOf w) (tuplesOf q m) })
-    unfolding attempt execute
-    ran =
-        let k = picked b (chosen ts st) number at h z in
-        let same : performAll (operations (k .item)) unbound ts ≡ resultIs outcome (bindingsOf w) (tuplesOf q m) =
-        ap (λ (br : Branch). performAll (operations br) unbound ts) (sym (branch-is b at (k .item) (k .stands))) ∙ sym (x .is) in
-        let number-is : number ≡ suc (k .index) = k .counts in
-        ap (Option·map (execute ts)) (k .is) ∙ (λ i. some (record { branch = sym number-is i; result = same i }))
-
-    -- the branch failed: nothing is changed
-    pub attempt-fails : (outcome ≡ 0 → ⊥) → Attempted (attempt ts st) ts number outcome n w p
-    attempt-fails f = rw ran (go number outcome z f)
-      where
-        go : (k j : ℕ) → (k ≡ 0 → ⊥) → (j ≡ 0 → ⊥) → Attempted (some (record { branch = k; result = resultIs j (bindingsOf w) (tuplesOf q m) })) ts k j n w p
-        go zero j z f = absurd (z refl)
-        go (suc k) zero z f = absurd (f refl)
-        go (suc k) (suc j) z f = unfold ranIs resultIs tuplesAfter in record { is = refl; holds = s }
-
-    -- the branch is done: its tuples are left
-    pub attempt-done : outcome ≡ 0 → (p′ : List ℕ) → p′ ≡ q → Attempted (attempt ts st) ts number 0 m w p′
-    attempt-done f p′ d = rw (ran, d, f) (go number z)
-      where
-        go : (k : ℕ) → (k ≡ 0 → ⊥) → Attempted (some (record { branch = k; result = resultIs 0 (bindingsOf w) (tuplesOf q m) })) ts k 0 m w q
-        go zero z = absurd (z refl)
-        go (suc k) z = unfold ranIs resultIs tuplesAfter in record { is = refl; holds = x .section f }
+-- it ran, whole or not at all
+pub attempted : (b : List ℕ) (ts : List Tuple) (st : Statement) (number tuple : ℕ) (r : OperationRead) → ChosenRead b ts (chosen ts st) number tuple r → (number ≡ 0 → ⊥)
+    → (outcome n : ℕ) (v : Vars) (p : List ℕ) → Whole (performAll (branchOf b r) unbound ts) ts outcome n v p → Attempted (attempt ts st) ts number outcome n v p
+unfolding attempt
+attempted b ts st number tuple r c z outcome n v p h = rw (c .is) (go number z)
+  where
+    go : (k : ℕ) → (k ≡ 0 → ⊥) → Attempted (some (record { branch = k; result = performAll (branchOf b r) unbound ts })) ts k outcome n v p
+    go zero z = absurd (z refl)
+    go (suc k) z = unfold ranIs in record { is = ap (λ (y : Result). some (record { branch = suc k; result = y })) (h .is); holds = h .holds }

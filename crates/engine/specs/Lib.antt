@@ -1,3 +1,4 @@
 pub mod Legality
 pub mod Ahead
+pub mod Unfailing
 pub mod Attempting

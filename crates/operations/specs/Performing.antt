@@ -5,7 +5,8 @@ use native.Mathlib.Omega.{arith}
 use mathlib.Core.Bool.{Bool, true, false, cond}
 use mathlib.Core.Option.{Option, none, some, Option·map, Option·some-injective, Option·none-ne-some}
 use mathlib.Core.List.{List, [], _∷_, _++_, map}
-use lib.ListN.{length}
+use lib.ListN.{length, getD}
+use lib.Seq.{getD-append-seam}
 use lib.Dec.{T, leb}
 use borrow.Author.Tests.{le-leb, lt-leb}
 use Rattle.basis.specs.Choice.{maybe, provided}
@@ -27,6 +28,7 @@ use Rattle.sections.specs.Shapes.{items-length, holds-read, holds}
 use Rattle.tuples.specs.Section.{Legal, tupleShape, entryBytes, tupleAt, tuplesOf, Holds, Section}
 use Rattle.tuples.specs.Entry.{Entry}
 use Rattle.tuples.specs.EntryLaws.{entry-of, entry-read}
+use Rattle.tuples.specs.SectionLaws.{read-at}
 use Rattle.matching.specs.Meaning.{templateIs, foundIs}
 use Rattle.moves.specs.declared.Copied.the-variants.{Now, Full}
 use Rattle.moves.specs.Moves.{relocated, Copies}
@@ -41,58 +43,81 @@ unfoldable pub resultIs : ℕ → Bindings → List Tuple → Result
 resultIs zero bs ts = done bs ts
 resultIs (suc k) bs ts = failed (suc k)
 
--- the code's answer and its section are this result
+-- the code's answer is this result, and there is a section: after a failure, of the tuples before the operation that failed
 pub record Leaves (x : Result) (outcome n : ℕ) (v : Vars) (p : List ℕ) : Type 0 where
   pub is : resultIs outcome (bindingsOf v) (tuplesOf p n) ≡ x
-  pub section : outcome ≡ 0 → Section p n
+  pub section : Section p n
 
 -- it is done, and the section holds the tuples
 pub leaves-done : (bs : Bindings) (ts : List Tuple) (n : ℕ) (v : Vars) (p : List ℕ) → bindingsOf v ≡ bs → Holds p n ts → Leaves (done bs ts) 0 n v p
 unfolding resultIs
-leaves-done bs ts n v p e h = record { is = rw (e, holds-read tupleShape p n ts h); section = λ z. holds tupleShape p n ts h }
+leaves-done bs ts n v p e h = record { is = rw (e, holds-read tupleShape p n ts h); section = holds tupleShape p n ts h }
 
 -- it failed
-pub leaves-failed : (k n : ℕ) (v : Vars) (p : List ℕ) → Leaves (failed (suc k)) (suc k) n v p
+pub leaves-failed : (k n : ℕ) (v : Vars) (p : List ℕ) → Section p n → Leaves (failed (suc k)) (suc k) n v p
 unfolding resultIs
-leaves-failed k n v p = record { is = refl; section = λ z. absurd (omega arith) }
+leaves-failed k n v p h = record { is = refl; section = h }
 
 -- ---- in and rd
 
 unfoldable pub lookUp : (withdraws : Bool) → Bindings → ℕ → List Model.Field → List Tuple → Result
 lookUp withdraws bs s fs ts = maybe (oldest bs s fs ts) (failed 16) (lookedUp withdraws fs bs ts)
 
+-- the oldest match is the tuple at an index
+abbrev pub OldestAt : Bindings → ℕ → List Model.Field → (p : List ℕ) (n i : ℕ) → Type 0
+OldestAt bs s fs p n i = oldest bs s fs (tuplesOf p n) ≡ some (record { index = i; item = tupleAt p i })
+
+-- the number of tuples after it is taken, or read
+unfoldable pub afterTaking : (withdraws : Bool) → ℕ → ℕ
+afterTaking withdraws n = cond withdraws (n - 1) n
+
+-- what the search answers
 module _ (bs : Bindings) (s : ℕ) (fs : List Model.Field) (p : List ℕ) (n : ℕ) (t : Template) (a : templateIs t ≡ template bs s fs) where
   found-oldest : (r : declared.Found) → foundIs p r ≡ first (isMatch (templateIs t)) (tuplesOf p n) → oldest bs s fs (tuplesOf p n) ≡ foundIs p r
   unfolding oldest
   found-oldest r e = ap (λ (h : Tuple → Bool). first h (tuplesOf p n)) (sym (ap isMatch a)) ∙ sym e
 
-  pub look-none : (withdraws : Bool) (v : Vars) (q : List ℕ) → foundIs p Nothing ≡ first (isMatch (templateIs t)) (tuplesOf p n) → Leaves (lookUp withdraws bs s fs (tuplesOf p n)) 16 n v q
+  pub search-none : foundIs p Nothing ≡ first (isMatch (templateIs t)) (tuplesOf p n) → (withdraws : Bool) (v : Vars) → Section p n → Leaves (lookUp withdraws bs s fs (tuplesOf p n)) 16 n v p
   unfolding lookUp foundIs
-  look-none withdraws v q e = rw (found-oldest Nothing e) (leaves-failed 15 n v q)
+  search-none e withdraws v h = rw (found-oldest Nothing e) (leaves-failed 15 n v p h)
 
-  -- the tuple at a found index matches
-  at-first : (i : ℕ) → foundIs p (At i) ≡ first (isMatch (templateIs t)) (tuplesOf p n) → First (matches bs s fs) (tuplesOf p n) (record { index = i; item = tupleAt p i })
-  unfolding foundIs oldest
-  at-first i e = first-some (matches bs s fs) (tuplesOf p n) (record { index = i; item = tupleAt p i }) (found-oldest (At i) e)
+  pub search-at : (i : ℕ) → foundIs p (At i) ≡ first (isMatch (templateIs t)) (tuplesOf p n) → OldestAt bs s fs p n i
+  unfolding foundIs
+  search-at i e = found-oldest (At i) e
 
-  pub at-below : (i : ℕ) → foundIs p (At i) ≡ first (isMatch (templateIs t)) (tuplesOf p n) → i < n
-  at-below i e = subst (λ (m : ℕ). i < m) (items-length tupleShape p n) (first-below (matches bs s fs) (tuplesOf p n) (record { index = i; item = tupleAt p i }) (at-first i e))
+-- an oldest match at an index is the tuple that stands there
+pub oldest-at : (bs : Bindings) (s : ℕ) (fs : List Model.Field) (p : List ℕ) (n i : ℕ) (t : Tuple) → oldest bs s fs (tuplesOf p n) ≡ some (record { index = i; item = t }) → OldestAt bs s fs p n i
+unfolding oldest
+oldest-at bs s fs p n i t e =
+    let h = first-some (matches bs s fs) (tuplesOf p n) (record { index = i; item = t }) e in
+    let below : i < n = subst (λ (m : ℕ). i < m) (items-length tupleShape p n) (first-below (matches bs s fs) (tuplesOf p n) (record { index = i; item = t }) h) in
+    let there : getD (tuplesOf p n) i t ≡ t = ap (λ (k : ℕ). getD (tuplesOf p n) k t) (h .index) ∙ ap (λ (l : List Tuple). getD l (length (h .front)) t) (h .split) ∙ getD-append-seam (h .front) t (h .back) t in
+    e ∙ ap (λ (x : Tuple). some (record { index = i; item = x })) (sym there ∙ read-at p n i t below)
 
-  pub at-count : (i : ℕ) → foundIs p (At i) ≡ first (isMatch (templateIs t)) (tuplesOf p n) → length ((tupleAt p i) .values) ≡ length fs
-  at-count i e = matched bs s fs (tupleAt p i) (at-first i e .passes) .0
+-- a tuple that was found
+module _ (bs : Bindings) (s : ℕ) (fs : List Model.Field) (p : List ℕ) (n i : ℕ) (e : OldestAt bs s fs p n i) where
+  at-first : First (matches bs s fs) (tuplesOf p n) (record { index = i; item = tupleAt p i })
+  unfolding oldest
+  at-first = first-some (matches bs s fs) (tuplesOf p n) (record { index = i; item = tupleAt p i }) e
 
-  look-at : (withdraws : Bool) (i : ℕ) → foundIs p (At i) ≡ first (isMatch (templateIs t)) (tuplesOf p n)
-      → done (bind bs fs ((tupleAt p i) .values)) (cond withdraws (removeAt i (tuplesOf p n)) (tuplesOf p n)) ≡ lookUp withdraws bs s fs (tuplesOf p n)
-  unfolding lookUp lookedUp foundIs
-  look-at withdraws i e = rw (found-oldest (At i) e)
+  pub at-below : i < n
+  at-below = subst (λ (m : ℕ). i < m) (items-length tupleShape p n) (first-below (matches bs s fs) (tuplesOf p n) (record { index = i; item = tupleAt p i }) at-first)
 
-  pub look-removed : (withdraws : Bool) → withdraws ≡ true → (i : ℕ) (v : Vars) (q : List ℕ) → foundIs p (At i) ≡ first (isMatch (templateIs t)) (tuplesOf p n) → bindingsOf v ≡ bind bs fs ((tupleAt p i) .values) → Holds q (n - 1) (removeAt i (tuplesOf p n))
-      → Leaves (lookUp withdraws bs s fs (tuplesOf p n)) 0 (n - 1) v q
-  look-removed withdraws w i v q e b h = rw w (subst (λ (x : Result). Leaves x 0 (n - 1) v q) (look-at true i e) (leaves-done _ _ (n - 1) v q b h))
+  pub at-count : length ((tupleAt p i) .values) ≡ length fs
+  at-count = matched bs s fs (tupleAt p i) (at-first .passes) .0
 
-  pub look-read : (withdraws : Bool) → withdraws ≡ false → (i : ℕ) (v : Vars) → foundIs p (At i) ≡ first (isMatch (templateIs t)) (tuplesOf p n) → bindingsOf v ≡ bind bs fs ((tupleAt p i) .values) → Section p n
-      → Leaves (lookUp withdraws bs s fs (tuplesOf p n)) 0 n v p
-  look-read withdraws w i v e b h = rw w (subst (λ (x : Result). Leaves x 0 n v p) (look-at false i e) (leaves-done _ _ n v p b h))
+  look-at : (withdraws : Bool) → done (bind bs fs ((tupleAt p i) .values)) (cond withdraws (removeAt i (tuplesOf p n)) (tuplesOf p n)) ≡ lookUp withdraws bs s fs (tuplesOf p n)
+  unfolding lookUp lookedUp
+  look-at withdraws = rw e
+
+  module _ (v : Vars) (b : bindingsOf v ≡ bind bs fs ((tupleAt p i) .values)) (withdraws : Bool) where
+    pub look-removed : withdraws ≡ true → (q : List ℕ) → Holds q (n - 1) (removeAt i (tuplesOf p n)) → Leaves (lookUp withdraws bs s fs (tuplesOf p n)) 0 (n - 1) v q × (n - 1 ≡ afterTaking withdraws n)
+    unfolding afterTaking
+    look-removed w q h = rw w (subst (λ (x : Result). Leaves x 0 (n - 1) v q) (look-at true) (leaves-done _ _ (n - 1) v q b h), refl)
+
+    pub look-read : withdraws ≡ false → Section p n → Leaves (lookUp withdraws bs s fs (tuplesOf p n)) 0 n v p × (n ≡ afterTaking withdraws n)
+    unfolding afterTaking
+    look-read w h = rw w (subst (λ (x : Result). Leaves x 0 n v p) (look-at false) (leaves-done _ _ n v p b h), refl)
 
 -- ---- out
 
@@ -117,20 +142,20 @@ made bs s fs tuple h = go (madeAll bs fs) refl h
     go (some vs) d h = record { values = vs; is = d; bytes = Option·some-injective tuple (entryBytes (tupleOf s vs)) h }
 
 module _ (bs : Bindings) (s : ℕ) (fs : List Model.Field) (p : List ℕ) (n : ℕ) (v : Vars) (e : bindingsOf v ≡ bs) (tuple : List ℕ) where
-  pub deposit-unmade : (q : List ℕ) → provided false tuple ≡ madeBytes bs s fs → Leaves (perform (deposit s fs) bs (tuplesOf p n)) 17 n v q
+  pub deposit-unmade : Section p n → provided false tuple ≡ madeBytes bs s fs → Leaves (perform (deposit s fs) bs (tuplesOf p n)) 17 n v p
   unfolding perform provided madeBytes
-  deposit-unmade q h = go (madeAll bs fs) refl h
+  deposit-unmade k h = go (madeAll bs fs) refl h
     where
-      go : (o : Option (List Value)) → madeAll bs fs ≡ o → none ≡ Option·map (λ vs. entryBytes (tupleOf s vs)) o → Leaves (perform (deposit s fs) bs (tuplesOf p n)) 17 n v q
-      go none d h = rw d (leaves-failed 16 n v q)
+      go : (o : Option (List Value)) → madeAll bs fs ≡ o → none ≡ Option·map (λ vs. entryBytes (tupleOf s vs)) o → Leaves (perform (deposit s fs) bs (tuplesOf p n)) 17 n v p
+      go none d h = rw d (leaves-failed 16 n v p k)
       go (some vs) d h = absurd (Option·none-ne-some (entryBytes (tupleOf s vs)) h)
 
   module _ (h : provided true tuple ≡ madeBytes bs s fs) where
-    pub deposit-full : (q : List ℕ) → mostTuples ≤ n → Leaves (perform (deposit s fs) bs (tuplesOf p n)) 12 n v q
+    pub deposit-full : Section p n → mostTuples ≤ n → Leaves (perform (deposit s fs) bs (tuplesOf p n)) 12 n v p
     unfolding perform appended
-    deposit-full q k =
+    deposit-full o k =
         let full : leb (length (tuplesOf p n) + 1) mostTuples ≡ false = lt-leb (length (tuplesOf p n) + 1) mostTuples (omega (arith, items-length tupleShape p n)) in
-        rw (made bs s fs tuple h .is, full) (leaves-failed 11 n v q)
+        rw (made bs s fs tuple h .is, full) (leaves-failed 11 n v p o)
 
     legal : (c : CanDeposit bs s fs) → Legal (tupleOf s (made bs s fs tuple h .values))
     legal c = (c .legal (made bs s fs tuple h .values) (made bs s fs tuple h .is), c .space)
@@ -159,12 +184,12 @@ module _ (bs : Bindings) (from to : ℕ) (fs : List Model.Field) (p : List ℕ) 
   unfolding relocated
   copies = ap (λ (s : Tuple → Bool). map (inSpace to) (keep s (tuplesOf p n))) (ap selected a)
 
-  pub transfer-full : (q : List ℕ) (withdraws : Bool) → withdraws ≡ false → Copies Full p q n (relocated t to (tuplesOf p n)) → Leaves (perform (transfer withdraws from to fs) bs (tuplesOf p n)) 12 n v q
+  pub transfer-full : (q : List ℕ) (withdraws : Bool) → withdraws ≡ false → Section p n → Copies Full p q n (relocated t to (tuplesOf p n)) → Leaves (perform (transfer withdraws from to fs) bs (tuplesOf p n)) 12 n v q
   unfolding perform appended
-  transfer-full q withdraws w h =
+  transfer-full q withdraws w k h =
       let full : leb (length (tuplesOf p n) + length (relocated t to (tuplesOf p n))) mostTuples ≡ false =
       lt-leb (length (tuplesOf p n) + length (relocated t to (tuplesOf p n))) mostTuples (omega (arith, h .0, items-length tupleShape p n)) in
-      rw (w, ← copies, full) (leaves-failed 11 n v q)
+      rw (w, ← copies, full, h .1) (leaves-failed 11 n v p k)
 
   pub transfer-copied : (q : List ℕ) (m : ℕ) (withdraws : Bool) → withdraws ≡ false → Copies (Now m) p q n (relocated t to (tuplesOf p n)) → Leaves (perform (transfer withdraws from to fs) bs (tuplesOf p n)) 0 m v q
   unfolding perform appended

@@ -11,7 +11,8 @@ use Rattle.statements.specs.Flat.{operationIs}
 use Rattle.tuples.specs.Section.{tuplesOf}
 use Rattle.bindings.specs.Variables.{bindingsOf}
 use Rattle.operations.specs.Codes.{CanPerform}
-use Rattle.engine.specs.Ahead.{operationsAt, Running, running-can, running-fails, running-turn, running-end}
+use Rattle.walk.specs.Walk.{operationsAt}
+use Rattle.engine.specs.Ahead.{Running, running-can, running-fails, running-turn, running-end}
 use Rattle.engine.proofs.run_operations.Statement.{statement}
 use Rattle.engine.proofs.run_operations.Tie as tie
 

@@ -27,13 +27,13 @@ returns : tie.Need-returns
 returns c =
     let at = c .before .before in
     let a = (start at) .args in
-    deposit-unmade (bindingsOf (a .v)) (a .op .from) (fieldsIn (a .op)) (now (a .tuples)) (a .n) (a .v) refl (at .make-tuple .result .tuple) (now (a .tuples)) (made at false (not-true _ (c .if1 .taken)))
+    deposit-unmade (bindingsOf (a .v)) (a .op .from) (fieldsIn (a .op)) (now (a .tuples)) (a .n) (a .v) refl (at .make-tuple .result .tuple) (start at .pre .0) (made at false (not-true _ (c .if1 .taken)))
 
 returns-2 : tie.Need-returns-2
 returns-2 c =
     let at = c .before .before .before in
     let a = (start at) .args in
-    deposit-full (bindingsOf (a .v)) (a .op .from) (fieldsIn (a .op)) (now (a .tuples)) (a .n) (a .v) refl (at .make-tuple .result .tuple) (made at true (not-false _ (c .before .if1 .left))) (now (a .tuples)) (c .if2 .taken)
+    deposit-full (bindingsOf (a .v)) (a .op .from) (fieldsIn (a .op)) (now (a .tuples)) (a .n) (a .v) refl (at .make-tuple .result .tuple) (made at true (not-false _ (c .before .if1 .left))) (start at .pre .0) (c .if2 .taken)
 
 append-requires : tie.Need-append-requires
 append-requires c κs =

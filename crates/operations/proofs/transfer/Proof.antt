@@ -63,7 +63,7 @@ returns-3 c =
     let no = call .before .before in
     let at = no .before in
     let a = (start at) .args in
-    transfer-full (bindingsOf (a .v)) (a .op .from) (a .op .to) (fieldsIn (a .op)) (now (a .tuples)) (a .n) (a .v) refl (at .template-of .result) (at .template-of .ensures .0) _ (a .withdraws) (no .if1 .left)
+    transfer-full (bindingsOf (a .v)) (a .op .from) (a .op .to) (fieldsIn (a .op)) (now (a .tuples)) (a .n) (a .v) refl (at .template-of .result) (at .template-of .ensures .0) _ (a .withdraws) (no .if1 .left) (start at .pre .0)
     (subst (λ (r : Copied). Copies r (now (a .tuples)) (call .copy-all .last .0) (a .n) (relocated (at .template-of .result) (a .op .to) (tuplesOf (now (a .tuples)) (a .n)))) (c .enum-told .given .1) (call .copy-all .ensures))
 
 pub transfer-spec : {M : Type 1} → statement M
