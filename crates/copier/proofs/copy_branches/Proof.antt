@@ -29,7 +29,7 @@ module _ (r : tie.After-read-operation Inv-loop μ-loop) where
   buffer = now (at .before .before .before .args .out)
 
   one-more : at .loop .branches ≡ suc (at .loop .branches - 1)
-  one-more = let pos : 0 < at .loop .branches = r .before .loop-test .taken in omega arith
+  one-more = omega (arith, r .before .loop-test .taken)
 
   ahead : Underway bytes buffer (at .loop .next) 0 (suc (at .loop .branches - 1)) (at .loop .filled) (at .loop .out)
   ahead = subst (λ (n : ℕ). Underway bytes buffer (at .loop .next) 0 n (at .loop .filled) (at .loop .out)) one-more (at .loop .inv .1)
@@ -59,10 +59,10 @@ copy-operations-requires : tie.Need-copy-operations-requires Inv-loop μ-loop
 copy-operations-requires c κs = search needs
 
 sub-branches : tie.Need-sub-branches Inv-loop μ-loop
-sub-branches c = let r = c .before .before .before .before .before .before .before .before .before .before .before in r .before .loop-test .taken
+sub-branches c = let r = c .before .before .before .before .before .before .before .before .before .before .before in omega (arith, r .before .loop-test .taken)
 
 loop-less : tie.Need-loop-less Inv-loop μ-loop
-loop-less c = let r = c .before .before .before .before .before .before .before .before .before .before .before in let pos : 0 < at r .loop .branches = r .before .loop-test .taken in omega arith
+loop-less c = let r = c .before .before .before .before .before .before .before .before .before .before .before in omega (arith, r .before .loop-test .taken)
 
 loop-again : tie.Need-loop-again Inv-loop μ-loop
 loop-again c =
