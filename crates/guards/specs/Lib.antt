@@ -1,3 +1,4 @@
+pub mod Holding
 pub mod Placed
 pub mod Branches
 pub mod Searching
