@@ -3,12 +3,15 @@ ghost use mathlib.Core.Path.{_≡_};
 ghost use Prim.Native.Nat.{_≤_};
 ghost use lib.ListN.{length};
 ghost use lib.Dec.{T};
-ghost use Rattle.basis.specs.Sizes.{mostTuples, tuplesSize};
-ghost use Rattle.model.specs.Execution.{chosen, canWait};
-ghost use Rattle.model.specs.Legal.{legalBody};
+ghost use Rattle.basis.specs.Sizes.{mostFields, mostTuples, tuplesSize};
+ghost use Rattle.model.specs.Execution.{holds, chosen, canWait};
+ghost use Rattle.model.specs.Legal.{isGuard, legalBody};
 ghost use Rattle.layout.specs.Stored.{statementOf};
+ghost use Rattle.statements.specs.Flat.{operationIs};
 ghost use Rattle.tuples.specs.Section.{tuplesOf};
 ghost use Rattle.walk.specs.Choosing.{Chooses};
+use matching::Found;
+use statements::Operation;
 use statements::pass_operation;
 use statements::read_operation;
 use walk::Choice;
@@ -69,4 +72,19 @@ pub fn can_wait(body: &[u8]) -> bool
         i += 1;
     }
     false
+}
+
+// "finds a tuple or is true": whether a guard holds.
+pub fn holds(tuples: &[u8], n: usize, guard: Operation) -> bool
+    requires { ⌜ (length (now tuples) ≡ tuplesSize) × (n ≤ mostTuples) × T (isGuard (operationIs guard)) × (guard .count ≤ mostFields) ⌝ }
+    ensures { λ r. ⌜ r ≡ holds (tuplesOf (now (tuples .entry)) n) (operationIs guard) ⌝ }
+{
+    if guard.code == 0 {
+        return true;
+    }
+    let template = bindings::template_of(guard, bindings::no_vars());
+    match matching::find(tuples, n, template) {
+        Found::At(_) => true,
+        Found::Nothing => false,
+    }
 }

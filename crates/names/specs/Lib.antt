@@ -1,5 +1,2 @@
 pub mod Asks
-pub mod Head
-pub mod Walk
-pub mod WalkLaws
-pub mod PassLaws
+pub mod Named

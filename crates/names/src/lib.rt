@@ -1,17 +1,22 @@
 // The spaces that a body names: whether one of them passes a test.
 ghost use mathlib.Core.Path.{_≡_};
+ghost use Prim.Native.Nat.{_+_, _≤_, _<_};
+ghost use mathlib.Core.List.{[]};
+ghost use lib.ListN.{length, getD};
 ghost use lib.Dec.{T};
 ghost use Rattle.basis.specs.Lists.{any};
+ghost use Rattle.basis.specs.Sizes.{countWidth};
 ghost use Rattle.model.specs.Statement.{spacesOf as spacesIn, spacesNamed};
 ghost use Rattle.model.specs.Legal.{legalBody};
 ghost use Rattle.layout.specs.Stored.{statementOf};
-ghost use Rattle.statements.specs.Flat.{operationIs};
+ghost use Rattle.statements.specs.Flat.{operationOf};
+ghost use Rattle.walk.specs.Walk.{Operations};
 ghost use Rattle.spaces.specs.Spaces.{spacesOf, IsListed, Rising};
 ghost use Rattle.names.specs.Asks.{asks};
-ghost use Rattle.names.specs.Walk.{passOperation, passCounted, passBranch};
-use statements::Operation;
+ghost use Rattle.names.specs.Named.{PastOperations, PastBranch};
+use statements::Bare;
 use statements::TWO_SPACES;
-use statements::read_operation;
+use statements::pass_operation;
 
 // What a space is tested for: that it is not open, not open to a process, or that of a number.
 pub enum SpaceTest {
@@ -32,12 +37,12 @@ fn passes(spaces: &[u8], n: usize, what: SpaceTest, space: u16) -> bool
     }
 }
 
-// ---- from operation to operation
+// ---- from operation to operation, and from branch to branch
 
 // Whether an operation names a space that passes.
-fn operation_names(operation: Operation, spaces: &[u8], n: usize, what: SpaceTest) -> bool
+fn operation_names(operation: Bare, spaces: &[u8], n: usize, what: SpaceTest) -> bool
     requires { ⌜ IsListed (now spaces) n × Rising (spacesOf (now spaces) n) ⌝ }
-    ensures { λ r. ⌜ r ≡ any (asks (spacesOf (now (spaces .entry)) n) what) (spacesIn (operationIs operation)) ⌝ }
+    ensures { λ r. ⌜ r ≡ any (asks (spacesOf (now (spaces .entry)) n) what) (spacesIn (operationOf (operation .code) (operation .from) (operation .to) [])) ⌝ }
 {
     if operation.code == 0 {
         return false;
@@ -51,50 +56,48 @@ fn operation_names(operation: Operation, spaces: &[u8], n: usize, what: SpaceTes
     passes(spaces, n, what, operation.to)
 }
 
-// Past an operation: the position after it; 0 where it names a space that passes.
-fn pass_operation(body: &[u8], at: usize, spaces: &[u8], n: usize, what: SpaceTest) -> usize
-    requires { ⌜ IsListed (now spaces) n × Rising (spacesOf (now spaces) n) ⌝ }
-    ensures { λ r. ⌜ r ≡ passOperation (asks (spacesOf (now (spaces .entry)) n) what) (now (body .entry)) at ⌝ }
+// Past so many operations: the position after them; 0 where one names a space that passes.
+fn pass_operations(
+    body: &[u8],
+    at: usize,
+    count: usize,
+    spaces: &[u8],
+    n: usize,
+    what: SpaceTest,
+) -> usize
+    requires { ⌜ Operations (now body) at count × (0 < at) × (at ≤ length (now body)) × IsListed (now spaces) n × Rising (spacesOf (now spaces) n) ⌝ }
+    ensures { λ r. ⌜ PastOperations (asks (spacesOf (now (spaces .entry)) n) what) (now (body .entry)) at count r ⌝ }
 {
-    let read = read_operation(body, at);
-    let operation = read.operation;
-    if operation_names(operation, spaces, n, what) {
-        return 0;
-    }
-    read.end
-}
-
-// Past as many operations as the byte at a position says.
-fn pass_operations(body: &[u8], at: usize, spaces: &[u8], n: usize, what: SpaceTest) -> usize
-    requires { ⌜ IsListed (now spaces) n × Rising (spacesOf (now spaces) n) ⌝ }
-    ensures { λ r. ⌜ r ≡ passCounted (passOperation (asks (spacesOf (now (spaces .entry)) n) what) (now (body .entry))) (now (body .entry)) at ⌝ }
-{
-    if body.len() <= at {
-        return 0;
-    }
-    let mut left = body[at];
-    let mut end = at + words::COUNT_WIDTH;
+    let mut end = at;
+    let mut left = count;
     while 0 < left {
-        let next = pass_operation(body, end, spaces, n, what);
-        if next == 0 {
+        let operation = pass_operation(body, end);
+        if operation_names(operation, spaces, n, what) {
             return 0;
         }
-        end = next;
+        end = operation.end;
         left -= 1;
     }
     end
 }
 
-// Past a branch: its guard, then its body.
-fn pass_branch(body: &[u8], at: usize, spaces: &[u8], n: usize, what: SpaceTest) -> usize
-    requires { ⌜ IsListed (now spaces) n × Rising (spacesOf (now spaces) n) ⌝ }
-    ensures { λ r. ⌜ r ≡ passBranch (asks (spacesOf (now (spaces .entry)) n) what) (now (body .entry)) at ⌝ }
+// Past a branch with such a guard: the position after its operations; 0 where guard or operations name a space that passes.
+pub fn pass_branch(body: &[u8], guard: Bare, spaces: &[u8], n: usize, what: SpaceTest) -> usize
+    requires { ⌜ (guard .end < length (now body)) × Operations (now body) (guard .end + countWidth) (getD (now body) (guard .end) 0) × IsListed (now spaces) n × Rising (spacesOf (now spaces) n) ⌝ }
+    ensures { λ r. ⌜ PastBranch (asks (spacesOf (now (spaces .entry)) n) what) (now (body .entry)) guard r ⌝ }
 {
-    let end = pass_operation(body, at, spaces, n, what);
-    if end == 0 {
+    if operation_names(guard, spaces, n, what) {
         return 0;
     }
-    pass_operations(body, end, spaces, n, what)
+    let end = guard.end;
+    pass_operations(
+        body,
+        end + words::COUNT_WIDTH,
+        words::size(body[end]),
+        spaces,
+        n,
+        what,
+    )
 }
 
 // Whether a legal body names a space that passes, in any operation of any branch.
@@ -103,13 +106,13 @@ pub fn some_named(body: &[u8], spaces: &[u8], n: usize, what: SpaceTest) -> bool
     ensures { λ r. ⌜ r ≡ any (asks (spacesOf (now (spaces .entry)) n) what) (spacesNamed (statementOf (now (body .entry)))) ⌝ }
 {
     let mut left = body[words::BRANCH_COUNT_AT];
-    let mut end = words::BRANCHES_AT;
+    let mut at = words::BRANCHES_AT;
     while 0 < left {
-        let next = pass_branch(body, end, spaces, n, what);
-        if next == 0 {
+        let guard = pass_operation(body, at);
+        at = pass_branch(body, guard, spaces, n, what);
+        if at == 0 {
             return true;
         }
-        end = next;
         left -= 1;
     }
     false

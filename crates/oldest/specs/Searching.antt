@@ -1,13 +1,11 @@
--- The search for the oldest waiting statement with a guard that holds, and that there is none. Assumes nothing.
-use mathlib.Core.Path.{_≡_, refl, sym, ap, _∙_}
+-- The search for the oldest waiting statement with a guard that holds. Assumes nothing.
+use mathlib.Core.Path.{_≡_, refl}
 use Prim.Native.Nat.{ℕ, _+_, _≤_, _<_}
-use mathlib.Core.Bool.{Bool, true, false, not, _&&_, _||_}
-use mathlib.Core.Option.{Option, none, some}
-use mathlib.Core.List.{List, [], _∷_}
+use mathlib.Core.Bool.{Bool}
+use mathlib.Core.Option.{none, some}
+use mathlib.Core.List.{List}
 use lib.ListN.{length}
-use Rattle.basis.specs.Choice.{isSome}
-use Rattle.basis.specs.Lists.{all, any, Found, first, firstFrom}
-use Rattle.basis.specs.ListLaws.{first-any}
+use Rattle.basis.specs.Lists.{first, firstFrom}
 use Rattle.basis.specs.RestLaws.{Passed, passed-none, first-here, first-more, first-end}
 use Rattle.model.specs.Matching.{Tuple}
 use Rattle.model.specs.Execution.{ready, chosen}
@@ -25,10 +23,6 @@ use Rattle.oldest.specs.declared.Oldest.the-variants.{At, Nobody}
 -- a guard of it holds
 abbrev pub readyIn : List Tuple → Waiting → Bool
 readyIn ts w = ready ts (w .statement)
-
--- "no guard that holds"
-abbrev pub unready : List Tuple → Waiting → Bool
-unready ts w = not (readyIn ts w)
 
 module _ (p : List ℕ) (n : ℕ) (ts : List Tuple) where
   -- the branch that the guards of the waiting statement at an index choose, by the bytes of its body
@@ -70,18 +64,3 @@ module _ (p : List ℕ) (n : ℕ) (ts : List Tuple) where
 
       pub search-miss : c .branch ≡ 0 → Searching (i + 1)
       search-miss z = first-more (readyIn ts) u noWaiting below (chooses-none (bodyOf p i) ts (here .statement) (c .branch) (c .at) (c .tuple) h z)
-
--- ---- nobody is found
-
-module _ (ts : List Tuple) where
-  none-any : (l : List Waiting) → all (unready ts) l ≡ not (any (readyIn ts) l)
-  unfolding all any
-  none-any [] = refl
-  none-any (w ∷ l) = go (readyIn ts w) (none-any l)
-    where
-      go : (b : Bool) → all (unready ts) l ≡ not (any (readyIn ts) l) → (not b && all (unready ts) l) ≡ not (b || any (readyIn ts) l)
-      go true e = refl
-      go false e = e
-
-  pub none-ready : (l : List Waiting) (o : Option (Found Waiting)) → first (readyIn ts) l ≡ o → not (isSome o) ≡ all (unready ts) l
-  none-ready l o e = sym (none-any l ∙ ap not (sym (first-any (readyIn ts) l) ∙ ap isSome e))

@@ -2,11 +2,10 @@
 ghost use mathlib.Core.Path.{_≡_};
 ghost use Prim.Native.Nat.{_≤_, _<_};
 ghost use lib.ListN.{length};
-ghost use Rattle.basis.specs.Lists.{all};
 ghost use Rattle.basis.specs.Sizes.{mostTuples, tuplesSize};
 ghost use Rattle.tuples.specs.Section.{tuplesOf};
-ghost use Rattle.queue.specs.Queue.{waitingOf, IsQueued};
-ghost use Rattle.oldest.specs.Searching.{ChoosesAt, unready, Answers};
+ghost use Rattle.queue.specs.Queue.{IsQueued};
+ghost use Rattle.oldest.specs.Searching.{ChoosesAt, Answers};
 use walk::Choice;
 
 // Who runs next: the waiting statement at an index, with the branch that its guards choose, or nobody.
@@ -39,15 +38,4 @@ pub fn oldest_ready(waiting: &[u8], n: usize, tuples: &[u8], m: usize) -> Oldest
         i += 1;
     }
     Oldest::Nobody
-}
-
-// "no guard that holds": none of n waiting statements is ready with m tuples.
-pub fn none_ready(waiting: &[u8], n: usize, tuples: &[u8], m: usize) -> bool
-    requires { ⌜ IsQueued (now waiting) n × (length (now tuples) ≡ tuplesSize) × (m ≤ mostTuples) ⌝ }
-    ensures { λ r. ⌜ r ≡ all (unready (tuplesOf (now (tuples .entry)) m)) (waitingOf (now (waiting .entry)) n) ⌝ }
-{
-    match oldest_ready(waiting, n, tuples, m) {
-        Oldest::At(_, _) => false,
-        Oldest::Nobody => true,
-    }
 }

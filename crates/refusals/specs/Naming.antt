@@ -13,10 +13,10 @@ use Rattle.model.specs.Legal.{legalBody}
 use Rattle.model.specs.Run.{Space, Waiting, Run, isOpen, isDenied}
 use Rattle.model.specs.Step.{checks, standing, access, someWaitingNames, guarded}
 use Rattle.layout.specs.Stored.{statementOf}
+use Rattle.walk.specs.Walk.{body-is}
 use Rattle.order.specs.Refusal.{refusal, closing}
 use Rattle.order.specs.RefusalLaws.{stops, goes, all-open, some-closed, some-denied, close-closed, close-denied, close-used, close-unused}
 use Rattle.names.specs.Asks.{asks}
-use Rattle.names.specs.Head.{body-head, body-host}
 use Rattle.names.specs.declared.SpaceTest.{SpaceTest}
 use Rattle.names.specs.declared.SpaceTest.the-variants.{Closed, Shut, Same}
 
@@ -59,7 +59,7 @@ module _ (s : Run) (p n : ℕ) (ss : List Space) (same : ss ≡ s .spaces) (t : 
 
 module _ (s : Run) (b : List ℕ) (process r : ℕ) (t : T (legalBody b)) (e : process ≡ numberAt processAt processWidth b) (f : r ≡ refusal (standing s (getD b hostAt 0) process)) where
   stood : r ≡ refusal (standing s ((statementOf b) .host) ((statementOf b) .process))
-  stood = f ∙ (λ i. refusal (standing s (body-host b t i) ((e ∙ body-head b t .process) i)))
+  stood = f ∙ (λ i. refusal (standing s (body-is b t .host i) ((e ∙ body-is b t .process) i)))
 
   pub statement-stops : (r ≡ 0 → ⊥) → r ≡ refusal (checks s (guarded (statementOf b)))
   unfolding checks
@@ -68,7 +68,7 @@ module _ (s : Run) (b : List ℕ) (process r : ℕ) (t : T (legalBody b)) (e : p
   pub statement-goes : (q : ℕ) → r ≡ 0 → q ≡ refusal (access s process (spacesNamed (statementOf b))) → q ≡ refusal (checks s (guarded (statementOf b)))
   unfolding checks
   statement-goes q z g =
-      g ∙ ap (λ (p : ℕ). refusal (access s p (spacesNamed (statementOf b)))) (e ∙ body-head b t .process)
+      g ∙ ap (λ (p : ℕ). refusal (access s p (spacesNamed (statementOf b)))) (e ∙ body-is b t .process)
       ∙ goes s ((statementOf b) .host) ((statementOf b) .process) r stood (access s ((statementOf b) .process) (spacesNamed (statementOf b))) z
 
 -- ---- 15

@@ -21,7 +21,7 @@ use Rattle.layout.specs.Replies.{replyBytes, repliesBytes}
 use Rattle.layout.specs.States.{decode}
 use Rattle.layout.specs.Stored.{IsStored, Turned, statementOf, legal-parse}
 use Rattle.header.specs.StoredLaws.{stored-says, said}
-use Rattle.names.specs.Head.{body-head, body-host}
+use Rattle.walk.specs.Walk.{body-is}
 use Rattle.framing.specs.Marks.{markAt}
 use Rattle.handling.specs.Answers.{Took}
 use Rattle.handling.specs.AnswerLaws.{along}
@@ -34,7 +34,7 @@ use Rattle.replica.specs.Asks.{asked}
 pub refused-body : (s : Run) (body : List ℕ) (p k : ℕ) (buffer state out : List ℕ) (n : ℕ) → T (legalBody body) → p ≡ numberAt processAt processWidth body
     → Turned (refused s (getD body hostAt 0) p k) buffer state out n → Turned (refused s ((statementOf body) .host) ((statementOf body) .process) k) buffer state out n
 refused-body s body p k buffer state out n t e h =
-    along (refused s (getD body hostAt 0) p k) (refused s ((statementOf body) .host) ((statementOf body) .process) k) buffer state out n (λ i. refused s (body-host body t i) ((e ∙ body-head body t .process) i) k) h
+    along (refused s (getD body hostAt 0) p k) (refused s ((statementOf body) .host) ((statementOf body) .process) k) buffer state out n (λ i. refused s (body-is body t .host i) ((e ∙ body-is body t .process) i) k) h
 
 -- ---- the room for rule 7
 

@@ -12,7 +12,7 @@ use Rattle.basis.specs.Lists.{all}
 use Rattle.basis.specs.Numbers.{numberAt}
 use Rattle.basis.specs.Sizes.{codeWidth, countWidth, spaceWidth, mostFields}
 use Rattle.model.specs.Statement as model
-use Rattle.model.specs.Statement.{always}
+use Rattle.model.specs.Statement.{always, lookup, deposit, transfer, spacesOf}
 use Rattle.model.specs.Reading.{give, several, field}
 use Rattle.statements.specs.At.{readAt, passed, passed-none, ended, position, found, some-readAt, found-none}
 use Rattle.statements.specs.Ends.{endAt}
@@ -99,6 +99,14 @@ bare-of (suc (suc (suc (suc zero)))) from to fs = refl
 bare-of (suc (suc (suc (suc (suc zero))))) from to fs = refl
 bare-of (suc (suc (suc (suc (suc (suc zero)))))) from to fs = refl
 bare-of (suc (suc (suc (suc (suc (suc (suc n))))))) from to fs = refl
+
+-- its fields name no space
+pub spaces-bare : (o : model.Operation) → spacesOf (bare o) ≡ spacesOf o
+unfolding bare spacesOf
+spaces-bare always = refl
+spaces-bare (lookup withdraws blocks s fs) = refl
+spaces-bare (deposit s fs) = refl
+spaces-bare (transfer withdraws from to fs) = refl
 
 -- the fields of a front are read, or their end is found
 module _ (f : Front) (b : List ℕ) (o : Option (model.Operation × ℕ)) (h : Fronts f b o) where

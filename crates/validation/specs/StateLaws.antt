@@ -10,7 +10,7 @@ use lib.Pow.{areBytes}
 use borrow.Author.Tests.{eq-eqb}
 use Rattle.basis.specs.Logic.{and-l, and-r, both, true-is}
 use Rattle.basis.specs.Lists.{all, pairwise, sameBytes}
-use Rattle.basis.specs.ListLaws.{all-at, all-of, same-refl, same→eq}
+use Rattle.basis.specs.ListLaws.{all-at, all-of, all-both, same-refl, same→eq}
 use Rattle.basis.specs.Sizes.{mostSpaces, mostTuples, mostWaiting, spaceSize, tupleSize, waitingSize, spacesSize, tuplesSize, waitingAllSize, stateSize}
 use Rattle.model.specs.Matching.{Tuple}
 use Rattle.model.specs.Execution.{canWait}
@@ -31,8 +31,7 @@ use Rattle.spaces.specs.LegalLaws.{legal-listed, legal-rising}
 use Rattle.queue.specs.Queue.{waitingOf, IsQueued}
 use Rattle.queue.specs.Legal.{otherProcess, queueLegal, inOrder}
 use Rattle.queue.specs.LegalLaws.{legal-queued}
-use Rattle.waiting.specs.Waits.{openToIt, mayWait}
-use Rattle.oldest.specs.Searching.{unready}
+use Rattle.waiting.specs.Waits.{openToIt, mayWait, unready, keepsWaiting}
 use Rattle.validation.specs.Validation.{tuplesLegal, waitsLegal, contentsLegal}
 
 -- ---- the counts
@@ -152,14 +151,10 @@ module _ (last : ℕ) (up : List Bool) (ss : List Space) (ts : List Tuple) (ws :
     unfolding waitsLegal
     no-process z = rw (sym eo ∙ yo, sym ed ∙ z)
 
-    module _ (yd : d ≡ true) (m : Bool) (em : m ≡ all (mayWait up ss) ws) where
-      pub no-wait : m ≡ false → false ≡ waitsLegal last up ss ts ws
-      unfolding waitsLegal
-      no-wait z = rw (sym eo ∙ yo, sym ed ∙ yd, sym em ∙ z)
-
-      pub then-ready : m ≡ true → (r : Bool) → r ≡ all (unready ts) ws → r ≡ waitsLegal last up ss ts ws
-      unfolding waitsLegal
-      then-ready z r e = rw (sym eo ∙ yo, sym ed ∙ yd, sym em ∙ z) e
+    -- the two tests of each are made in one walk
+    pub then-wait : d ≡ true → (r : Bool) → r ≡ all (keepsWaiting up ss ts) ws → r ≡ waitsLegal last up ss ts ws
+    unfolding waitsLegal
+    then-wait z r e = rw (sym eo ∙ yo, sym ed ∙ z) (e ∙ all-both (mayWait up ss) (unready ts) ws)
 
 -- the sections one after the other
 module _ (b : List ℕ) (n next m k : ℕ) (en : n ≡ length ((decode b) .spaces)) (ex : next ≡ (decode b) .next) (r : Bool) (er : r ≡ spacesLegal (spacesLent b) n next) where

@@ -16,8 +16,7 @@ use Rattle.spaces.specs.Spaces.{spacesOf}
 use Rattle.spaces.specs.Legal.{spacesLegal}
 use Rattle.queue.specs.Queue.{waitingOf}
 use Rattle.queue.specs.Legal.{otherProcess, queueLegal, inOrder}
-use Rattle.waiting.specs.Waits.{mayWait}
-use Rattle.oldest.specs.Searching.{unready}
+use Rattle.waiting.specs.Waits.{mayWait, unready}
 
 abbrev pub inOpen : List Space → Tuple → Bool
 inOpen ss t = isOpen ss (t .space)

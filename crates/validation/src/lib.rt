@@ -43,7 +43,7 @@ fn tuples_ok(tuples: &[u8], m: usize, spaces: &[u8], n: usize) -> bool
     rows_ok(tuples, m, spaces, n)
 }
 
-// The waiting statements: their order, "of a process that no other entry has", each may wait, and none is ready.
+// The waiting statements: their order, "of a process that no other entry has", each may wait, and none is ready (one walk of each body).
 fn waits_ok(
     waiting: &[u8],
     k: usize,
@@ -63,10 +63,7 @@ fn waits_ok(
     if !queue::processes_differ(waiting, k) {
         return false;
     }
-    if !waiting::all_may_wait(waiting, k, spaces, n, up) {
-        return false;
-    }
-    oldest::none_ready(waiting, k, tuples, m)
+    waiting::all_may_wait(waiting, k, spaces, n, tuples, m, up)
 }
 
 // The sections, of bytes whose header is that of a state.

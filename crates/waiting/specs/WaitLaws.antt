@@ -2,7 +2,7 @@
 use mathlib.Core.Path.{_≡_, refl, sym, ap, _∙_}
 use Prim.Native.Nat.{ℕ, _+_, _-_, _≤_, _<_}
 use native.Mathlib.Omega.{arith}
-use mathlib.Core.Bool.{Bool, true, false, not, _&&_, _||_}
+use mathlib.Core.Bool.{Bool, true, false, not, _&&_, _||_, and-assoc}
 use mathlib.Core.List.{List, [], _∷_, List·Memᴰ·head, List·Memᴰ·tail}
 use lib.ListN.{take, drop, getD}
 use lib.Dec.{T, leb, leb→le}
@@ -15,14 +15,15 @@ use Rattle.basis.specs.Numbers.{bits}
 use Rattle.basis.specs.Sizes.{lengthWidth, hosts, mostBody, waitingLengthAt, waitingBodyAt, waitingSize}
 use Rattle.model.specs.Statement.{Statement, spacesNamed}
 use Rattle.model.specs.Legal.{legalBody}
-use Rattle.model.specs.Execution.{canWait}
+use Rattle.model.specs.Matching.{Tuple}
+use Rattle.model.specs.Execution.{ready, canWait}
 use Rattle.model.specs.Run.{Space, Waiting, isOpen, isDenied}
 use Rattle.queue.specs.PlaceLaws.{bodySize, bodyPlace}
 use Rattle.queue.specs.Legal.{sizeIn, bodyFits, rowLegal}
 use Rattle.queue.specs.LegalLaws.{part-body}
 use Rattle.names.specs.Asks.{asks}
 use Rattle.names.specs.declared.SpaceTest.the-variants.{Shut}
-use Rattle.waiting.specs.Waits.{openToIt, mayWait}
+use Rattle.waiting.specs.Waits.{openToIt, mayWait, keepsWaiting, waits}
 
 -- ---- a row
 
@@ -55,23 +56,20 @@ not-any p q (a ∷ l) h = rw (h a (List·Memᴰ·head refl)) (go (q a) (not-any 
     go true e = e
     go false e = refl
 
-module _ (up host process : ℕ) (ss : List Space) (w : Waiting) (st : Statement) (r : Bool) (eh : host ≡ w .statement .host) (er : r ≡ getD (bits hosts up) host false) where
+module _ (up host : ℕ) (ss : List Space) (ts : List Tuple) (w : Waiting) (r : Bool) (eh : host ≡ w .statement .host) (er : r ≡ getD (bits hosts up) host false) where
   host-is : getD (bits hosts up) (w .statement .host) false ≡ r
   host-is = sym (er ∙ ap (λ (k : ℕ). getD (bits hosts up) k false) eh)
 
-  pub no-host : r ≡ false → false ≡ mayWait (bits hosts up) ss w
+  pub no-host : r ≡ false → false ≡ keepsWaiting (bits hosts up) ss ts w
   unfolding mayWait
   no-host z = rw (host-is ∙ z)
 
-  module _ (yes : r ≡ true) (ep : process ≡ w .statement .process) (es : st ≡ w .statement) (s : Bool) (en : s ≡ any (asks ss (Shut process)) (spacesNamed st)) where
-    named-is : openToIt ss w ≡ not s
+  module _ (yes : r ≡ true) (process : ℕ) (st : Statement) (ep : process ≡ w .statement .process) (es : st ≡ w .statement) where
+    named-is : openToIt ss w ≡ not (any (asks ss (Shut process)) (spacesNamed st))
     unfolding asks
-    named-is = sym (ap not en ∙ rw (es, ep) (not-any (λ n. not (isOpen ss n && not (isDenied ss (w .statement .process) n))) (λ n. isOpen ss n && not (isDenied ss (w .statement .process) n)) (spacesNamed (w .statement)) (λ n m. refl)))
+    named-is = sym (rw (es, ep) (not-any (λ n. not (isOpen ss n && not (isDenied ss (w .statement .process) n))) (λ n. isOpen ss n && not (isDenied ss (w .statement .process) n)) (spacesNamed (w .statement)) (λ n m. refl)))
 
-    pub no-space : s ≡ true → false ≡ mayWait (bits hosts up) ss w
-    unfolding mayWait
-    no-space z = rw (host-is ∙ yes, named-is ∙ ap not z)
-
-    pub then-can : s ≡ false → canWait st ≡ mayWait (bits hosts up) ss w
-    unfolding mayWait
-    then-can z = rw (host-is ∙ yes, named-is ∙ ap not z, es)
+    -- then the walk of its body decides
+    pub then-waits : waits ss ts process st ≡ keepsWaiting (bits hosts up) ss ts w
+    unfolding mayWait waits
+    then-waits = rw (host-is ∙ yes, named-is, ← es) (sym (and-assoc (not (any (asks ss (Shut process)) (spacesNamed st))) (canWait st) (not (ready ts st))))

@@ -64,6 +64,12 @@ found-is (suc end) stop o a e =
     let q = Option·some-injective (o, suc end) (a, stop) e in
     (ap (λ (y : Operation × ℕ). y .0) q, ap (λ (y : Operation × ℕ). y .1) q)
 
+-- and its end lies past the first byte
+found-past : (end stop : ℕ) (o a : Operation) → found end o ≡ some (a, stop) → 0 < end
+unfolding found
+found-past zero stop o a e = absurd (Option·none-ne-some (a, stop) e)
+found-past (suc end) stop o a e = omega arith
+
 module _ (b : List ℕ) (at : ℕ) (o : Operation) (end : ℕ) (h : There b at o end) where
   read-is : (r : OperationRead) → Reads r (operationAt b at) → (operationIs (r .operation) ≡ o) × (r .end ≡ end)
   unfolding readIs
@@ -105,6 +111,10 @@ module _ (b : List ℕ) (at count : ℕ) (h : Operations b at (suc count)) where
   pass-next r e =
       let q = bare-is b at (one .item) (one .end) one-there r e in
       record { item = one .item; is = q .0; next = rw (q .1) next-one }
+
+  pub pass-past : (r : Bare) → bareIs r ≡ bareAt (operationAt b at) → 0 < r .end
+  unfolding bareIs bareAt
+  pass-past r e = found-past (r .end) (one .end) (operationOf (r .code) (r .from) (r .to) []) (bare (one .item)) (e ∙ rw one-there)
 
 -- where operations end, found by going from end to end
 pub operations-past : (b : List ℕ) (at count end : ℕ) → Operations b at count → position end ≡ endAt (several operation count) (all fewFields) b at → (drop end b ≡ afterOperations b at count) × (end ≤ length b)

@@ -2,17 +2,17 @@
 use native.Mathlib.Omega.{arith}
 use denote.Ref.{now}
 use Rattle.layout.specs.States.{decode}
-use Rattle.names.specs.Head.{body-head, body-host-small}
+use Rattle.walk.specs.Walk.{body-is, body-host-small}
 use Rattle.refusals.specs.Naming.{statement-stops, statement-goes}
 use borrow.Author.Needs.{needs}
 use Rattle.refusals.proofs.refuse_statement.Statement.{statement}
 use Rattle.refusals.proofs.refuse_statement.Tie as tie
 
 word2-requires : tie.Need-word2-requires
-word2-requires c κs = let s = c .before .before in omega (arith, body-head (now (s .args .body)) (s .pre .1) .long)
+word2-requires c κs = let s = c .before .before in omega (arith, body-is (now (s .args .body)) (s .pre .1) .long)
 
 shared-slice-read-refuse-standing : tie.Need-shared-slice-read-refuse-standing
-shared-slice-read-refuse-standing c = let s = c .before .before .before .before in omega (arith, body-head (now (s .args .body)) (s .pre .1) .long)
+shared-slice-read-refuse-standing c = let s = c .before .before .before .before in omega (arith, body-is (now (s .args .body)) (s .pre .1) .long)
 
 refuse-standing-requires : tie.Need-refuse-standing-requires
 refuse-standing-requires c κs = let s = c .before .before .before .before in (s .pre .0, body-host-small (now (s .args .body)) (s .pre .1))

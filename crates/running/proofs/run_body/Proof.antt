@@ -8,7 +8,8 @@ use Prim.Native.Nat.{ℕ}
 use Rattle.layout.specs.States.{decode}
 use Rattle.layout.specs.Stored.{statementOf}
 use Rattle.replies.specs.Written.{ranValues}
-use Rattle.names.specs.Head.{Head, body-head, body-host}
+use Rattle.walk.specs.BodyParts.{BodyParts}
+use Rattle.walk.specs.Walk.{body-is}
 use Rattle.running.specs.Answers.{ran-short, run-none, run-some}
 use Rattle.running.proofs.run_body.Statement.{statement}
 use Rattle.running.proofs.run_body.Tie as tie
@@ -21,8 +22,8 @@ module _ (c : tie.After-attempt-in) where
   abbrev values : List (ℕ × Value)
   values = let r = c .attempt-in .result in ranValues (r .outcome) (r .vars .bound) (r .vars .kinds) (r .vars .bits)
 
-  head : Head (start .args .body .now) (statementOf (start .args .body .now))
-  head = body-head (start .args .body .now) (start .pre .1 .legal)
+  head : BodyParts (start .args .body .now) (statementOf (start .args .body .now))
+  head = body-is (start .args .body .now) (start .pre .1 .legal)
 
 -- and a guard holds
 module _ (c : tie.Else1) where
@@ -67,7 +68,7 @@ returns-2 c =
     let r = did .attempt-in .result in
     let w = said .ran-reply in (
       run-some (decode (a .state .now)) (a .position) (statementOf (a .body .now)) (did .attempt-in .last .0) (r .branch) (r .outcome) (values did) _ (process .word2 .result) (a .out .now) (w .last .0) (w .result)
-          (did .attempt-in .ensures) (held .if1 .left) (body-host (a .body .now) (start did .pre .1 .legal)) (process .word2 .ensures ∙ head did .process) (w .ensures),
+          (did .attempt-in .ensures) (held .if1 .left) (head did .host) (process .word2 .ensures ∙ head did .process) (w .ensures),
       ran-short (a .position) _ (process .word2 .result) (r .outcome) (r .branch) (r .vars .bound) (r .vars .kinds) (r .vars .bits) (a .out .now) (w .last .0) (w .result) (w .ensures),
     )
 

@@ -2,7 +2,7 @@
 use borrow.Author.Tests.{not-true, not-false}
 use Rattle.sections.specs.Shapes.{holds-room}
 use Rattle.queue.specs.Queue.{waitingShape}
-use Rattle.validation.specs.StateLaws.{no-order, no-process, no-wait, then-ready}
+use Rattle.validation.specs.StateLaws.{no-order, no-process, then-wait}
 use Rattle.validation.proofs.waits_ok.Statement.{statement}
 use Rattle.validation.proofs.waits_ok.Tie as tie
 
@@ -14,10 +14,6 @@ module _ (c : tie.After-in-order) where
 module _ (c : tie.After-processes-differ) where
   abbrev first : tie.After-in-order
   first = c .before .before
-
-module _ (c : tie.After-all-may-wait) where
-  abbrev second : tie.After-processes-differ
-  second = c .before .before
 
 in-order-requires : tie.Need-in-order-requires
 in-order-requires c κs = holds-room waitingShape _ _ _ (c .before .before .before .pre .0)
@@ -34,22 +30,12 @@ returns-2 c =
     no-process _ _ _ _ _ _ (first d .in-order .ensures) (not-false _ (d .before .if1 .left)) _ (d .processes-differ .ensures) (not-true _ (c .if2 .taken))
 
 all-may-wait-requires : tie.Need-all-may-wait-requires
-all-may-wait-requires c κs = let s = start (first (c .before)) in (s .pre .0, s .pre .1, s .pre .2)
+all-may-wait-requires c κs = let s = start (first (c .before)) in (s .pre .0, s .pre .1, s .pre .2, s .pre .3, s .pre .4)
 
 returns-3 : tie.Need-returns-3
 returns-3 c =
-    let m = c .before in
-    let d = second m in
-    no-wait _ _ _ _ _ _ (first d .in-order .ensures) (not-false _ (d .before .if1 .left)) _ (d .processes-differ .ensures) (not-false _ (m .before .if2 .left)) _ (m .all-may-wait .ensures) (not-true _ (c .if3 .taken))
-
-none-ready-requires : tie.Need-none-ready-requires
-none-ready-requires c κs = let s = start (first (second (c .before))) in (s .pre .0, s .pre .3, s .pre .4)
-
-returns-4 : tie.Need-returns-4
-returns-4 c =
-    let m = c .before .before in
-    let d = second m in
-    then-ready _ _ _ _ _ _ (first d .in-order .ensures) (not-false _ (d .before .if1 .left)) _ (d .processes-differ .ensures) (not-false _ (m .before .if2 .left)) _ (m .all-may-wait .ensures) (not-false _ (c .before .if3 .left)) _ (c .none-ready .ensures)
+    let d = c .before .before in
+    then-wait _ _ _ _ _ _ (first d .in-order .ensures) (not-false _ (d .before .if1 .left)) _ (d .processes-differ .ensures) (not-false _ (c .before .if2 .left)) _ (c .all-may-wait .ensures)
 
 pub waits-ok-spec : {M : Type 1} → statement M
 waits-ok-spec =
@@ -60,6 +46,4 @@ waits-ok-spec =
     processes-differ-requires
     returns-2
     all-may-wait-requires
-    returns-3
-    none-ready-requires
-    returns-4)
+    returns-3)

@@ -10,16 +10,17 @@ use Rattle.scans.specs.Tests.{Passing, pass-start, pass-more, pass-no, pass-end
 use Rattle.queue.specs.Queue.{waitingShape, waitingOf}
 use Rattle.queue.specs.PlaceLaws.{noWaiting}
 use Rattle.spaces.specs.Spaces.{spacesOf}
-use Rattle.waiting.specs.Waits.{mayWait}
+use Rattle.tuples.specs.Section.{tuplesOf}
+use Rattle.waiting.specs.Waits.{keepsWaiting}
 use borrow.Author.Needs.{needs}
 use Rattle.waiting.proofs.all_may_wait.Statement.{statement}
 use Rattle.waiting.proofs.all_may_wait.Tie as tie
 
 abbrev Inv-loop : tie.InvT-loop
-Inv-loop waiting n spaces m up i₀ i = Passing (mayWait (bits hosts up) (spacesOf spaces m)) (waitingOf waiting n) 0 i
+Inv-loop waiting n spaces m tuples k up i₀ i = Passing (keepsWaiting (bits hosts up) (spacesOf spaces m) (tuplesOf tuples k)) (waitingOf waiting n) 0 i
 
 abbrev μ-loop : tie.MeasureT-loop
-μ-loop waiting n spaces m up i₀ i = n - i
+μ-loop waiting n spaces m tuples k up i₀ i = n - i
 
 loop-holds : tie.Need-loop-holds Inv-loop μ-loop
 loop-holds c = pass-start _ _ 0 (omega arith)
@@ -33,7 +34,7 @@ module _ (c : tie.After-may-wait Inv-loop μ-loop) where
   turn = c .before
 
   abbrev start : tie.Start Inv-loop μ-loop
-  start = turn .before .before .before .before
+  start = turn .before .before .before .before .before
 
 returns : tie.Need-returns Inv-loop μ-loop
 returns c =
@@ -53,8 +54,8 @@ loop-again c =
 
 returns-2 : tie.Need-returns-2 Inv-loop μ-loop
 returns-2 c =
-    let s = c .before .before .before .before in
-    pass-end _ _ 0 noWaiting _ (c .before .loop .inv) (omega (arith, (let s = s in items-length waitingShape (s .args .waiting .now) (s .args .n)), c .loop-test .left))
+    let s = c .before .before .before .before .before in
+    pass-end _ _ 0 noWaiting _ (c .before .loop .inv) (omega (arith, items-length waitingShape (s .args .waiting .now) (s .args .n), c .loop-test .left))
 
 pub all-may-wait-spec : {M : Type 1} → statement M
 all-may-wait-spec =

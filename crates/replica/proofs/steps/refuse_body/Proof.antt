@@ -1,17 +1,17 @@
 -- `replica::steps::refuse_body` meets its contract. Assumes nothing.
 use native.Mathlib.Omega.{arith}
 use Rattle.layout.specs.States.{decode}
-use Rattle.names.specs.Head.{body-head}
+use Rattle.walk.specs.Walk.{body-is}
 use Rattle.replica.specs.HandleLaws.{refused-body}
 use borrow.Author.Needs.{needs}
 use Rattle.replica.proofs.steps.refuse_body.Statement.{statement}
 use Rattle.replica.proofs.steps.refuse_body.Tie as tie
 
 shared-slice-read-refuse : tie.Need-shared-slice-read-refuse
-shared-slice-read-refuse c = let s = c .before .before .before .before in omega (arith, body-head (s .args .body .now) (s .pre .1) .long)
+shared-slice-read-refuse c = let s = c .before .before .before .before in omega (arith, body-is (s .args .body .now) (s .pre .1) .long)
 
 word2-requires : tie.Need-word2-requires
-word2-requires c κs = let s = c .before .before .before .before in omega (arith, body-head (s .args .body .now) (s .pre .1) .long)
+word2-requires c κs = let s = c .before .before .before .before in omega (arith, body-is (s .args .body .now) (s .pre .1) .long)
 
 refuse-requires : tie.Need-refuse-requires
 refuse-requires c κs = search needs
