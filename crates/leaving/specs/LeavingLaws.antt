@@ -64,11 +64,12 @@ module _ (b : List ℕ) (i : ℕ) (h : IsStored b) (below : i < length ((decode 
 
   -- its row is read, its body copied, and it leaves
   pub gone : (state buffer : List ℕ) (p n : ℕ) → Stored state (without (decode b) i) → p ≡ rowPosition (queueLent b) i → n ≤ mostBody → take n buffer ≡ bodyOf (queueLent b) i
-      → Gone (decode b) i state buffer p n
+      → Gone b i state buffer p n
   gone state buffer p n s ep small copy = record {
     stored = s;
     position = ep ∙ in-row .position ∙ ap (λ (w : Waiting). w .position) place-is;
     size = small;
+    body = copy;
     legal = subst (λ (y : List ℕ). T (legalBody y)) (sym copy) (bytes-legal (queueLent b) count i queued below);
     statement = ap statementOf copy ∙ bytes-statement (queueLent b) count i queued below ∙ ap (λ (w : Waiting). w .statement) place-is;
   }

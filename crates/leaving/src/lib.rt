@@ -28,7 +28,7 @@ fn copy_body(waiting: &[u8], i: usize, body: &mut [u8]) -> usize
 // The waiting statement at an index "leaves the queue", its body copied.
 pub fn leave(state: &mut [u8], i: usize, body: &mut [u8]) -> Leaver
     requires { ⌜ IsStored (now state) × (i < length ((decode (now state)) .waiting)) × (mostBody ≤ length (now body)) ⌝ }
-    ensures { λ r. ⌜ Gone (decode (now (state .entry))) i (now (state .exit)) (now (body .exit)) (r .position) (r .size) ⌝ }
+    ensures { λ r. ⌜ Gone (now (state .entry)) i (now (state .exit)) (now (body .exit)) (r .position) (r .size) ⌝ }
 {
     let size = copy_body(&state[words::WAITING_AT..words::WAITING_END], i, body);
     let position = queue::position(&state[words::WAITING_AT..words::WAITING_END], i);

@@ -2,17 +2,20 @@
 use mathlib.Core.Path.{_≡_, refl, sym, ap, subst, _∙_}
 use Prim.Native.Nat.{ℕ, _*_, _≤_, _<_}
 use native.Mathlib.Omega.{arith}
+use mathlib.Core.Bool.{true, true≢false}
 use mathlib.Core.Option.{Option, none, some, Option·getD}
 use mathlib.Core.List.{List, [], _∷_, flatMap}
 use lib.ListN.{length, take, getD}
 use lib.Seq.{getD-at}
 use lib.Dec.{T-not}
 use Rattle.basis.specs.Choice.{maybe}
+use Rattle.basis.specs.Logic.{is-true}
 use Rattle.basis.specs.Lists.{Found, first, removeAt}
 use Rattle.basis.specs.ListLaws.{first-some, first-below}
 use Rattle.basis.specs.Sizes.{replyHeaderSize, mostReply}
 use Rattle.model.specs.Matching.{Tuple}
-use Rattle.model.specs.Execution.{Executed, attempt, tuplesAfter}
+use Rattle.model.specs.Statement.{Statement}
+use Rattle.model.specs.Execution.{ready, chosen, Executed, attempt, tuplesAfter}
 use Rattle.model.specs.Run.{Waiting, Run, withTuples, withWaiting, laid, ranReply, Turn, wokenBy, wake}
 use Rattle.model.specs.Debts.{laid-waiting}
 use Rattle.model.specs.Settle.{attempt-none, wake-some}
@@ -22,19 +25,21 @@ use Rattle.layout.specs.ReplyLaws.{reply-length}
 use Rattle.layout.specs.Stored.{Stored, IsStored, Turned, statementOf}
 use Rattle.header.specs.StoredLaws.{stored-says}
 use Rattle.replies.specs.TurnLaws.{one-reply}
-use Rattle.queue.specs.PlaceLaws.{noWaiting}
-use Rattle.oldest.specs.Searching.{readyIn, oldestOf}
-use Rattle.oldest.specs.declared.Oldest.{Oldest}
-use Rattle.oldest.specs.declared.Oldest.the-variants.{At, Nobody}
-use Rattle.running.specs.Executed.{MayRun, still, executed}
+use Rattle.header.specs.Rows.{queueLent}
+use Rattle.queue.specs.Queue.{waitingOf}
+use Rattle.queue.specs.PlaceLaws.{noWaiting, waitingNth, bodyOf}
+use Rattle.walk.specs.declared.Choice.{Choice}
+use Rattle.guards.specs.Searching.{chooses-none}
+use Rattle.oldest.specs.Searching.{readyIn, RunsAt}
+use Rattle.running.specs.Executed.{MayRun, Picked, still, executed}
 use Rattle.running.specs.Answers.{turned-still}
 use Rattle.leaving.specs.Leaving.{place, without, Gone}
 use Rattle.leaving.specs.LeavingLaws.{place-opened}
-use Rattle.wakes.specs.Woken.{wokenAt, woken}
+use Rattle.wakes.specs.Woken.{wokenAt, woken, PickedAt}
 
 -- ---- a statement that has left the queue
 
-module _ (b : List ℕ) (i : ℕ) (state copy : List ℕ) (p n : ℕ) (g : Gone (decode b) i state copy p n) where
+module _ (b : List ℕ) (i : ℕ) (state copy : List ℕ) (p n : ℕ) (g : Gone b i state copy p n) where
   says : decode state ≡ without (decode b) i
   says = stored-says state (without (decode b) i) (g .stored)
 
@@ -42,32 +47,14 @@ module _ (b : List ℕ) (i : ℕ) (state copy : List ℕ) (p n : ℕ) (g : Gone 
   pub gone-may : IsStored b → i < length ((decode b) .waiting) → MayRun (decode state) (take n copy)
   gone-may h below = record { legal = g .legal; opened = rw (g .statement, says) (place-opened b i h below) }
 
+  -- the branch that was chosen is its
+  pub gone-picked : (c : Choice) → PickedAt b i c → Picked (decode state) (take n copy) c
+  gone-picked c k = (rw (says, g .body, ap (chosen ((decode b) .tuples)) (ap statementOf (sym (g .body)) ∙ g .statement)) (k .0), k .1)
+
   -- and what it does is its turn
   pub gone-turn : (buffer bytes out : List ℕ) (m : ℕ) → Turned (executed (decode state) p (statementOf (take n copy))) buffer bytes out m → Turned (wokenAt (decode b) i) buffer bytes out m
   unfolding wokenAt
   gone-turn buffer bytes out m r = subst (λ (u : Turn). Turned u buffer bytes out m) (λ k. executed (says k) (g .position k) (g .statement k)) r
-
--- ---- whom an answer names
-
-index : Oldest → ℕ
-index (At i) = i
-index Nobody = 0
-
-isSomeone : Oldest → ℕ
-isSomeone (At i) = 1
-isSomeone Nobody = 0
-
-some-one : (f : Found Waiting) → oldestOf (some f) ≡ Nobody → ⊥
-unfolding oldestOf isSomeone
-some-one f e = let z : _≡_ {A = ℕ} 1 0 = ap isSomeone e in omega arith
-
-nobody : (i : ℕ) → oldestOf none ≡ At i → ⊥
-unfolding oldestOf isSomeone
-nobody i e = let z : _≡_ {A = ℕ} 0 1 = ap isSomeone e in omega arith
-
-same-index : (f : Found Waiting) (i : ℕ) → oldestOf (some f) ≡ At i → f .index ≡ i
-unfolding oldestOf index
-same-index f i e = ap index e
 
 -- ---- a turn
 
@@ -83,13 +70,9 @@ module _ (s : Run) where
       go (some e) r = unfold wokenBy in refl
 
   -- none holds
-  woken-none : oldestOf (first (readyIn (s .tuples)) (s .waiting)) ≡ Nobody → woken s ≡ still s
+  woken-none : first (readyIn (s .tuples)) (s .waiting) ≡ none → woken s ≡ still s
   unfolding woken wake
-  woken-none e = go (first (readyIn (s .tuples)) (s .waiting)) e
-    where
-      go : (o : Option (Found Waiting)) → oldestOf o ≡ Nobody → Option·getD (maybe o none (λ f. maybe (attempt (s .tuples) (f .item .statement)) none (λ e. some (wokenBy s f e)))) (still s) ≡ still s
-      go none e = refl
-      go (some f) e = absurd (some-one f e)
+  woken-none e = rw e
 
   turn-at : (i : ℕ) (f : Found Waiting) → place s i ≡ f .item → i ≡ f .index → wokenAt s i ≡ executed (withWaiting s (removeAt (f .index) (s .waiting))) (f .item .position) (f .item .statement)
   unfolding wokenAt
@@ -100,20 +83,11 @@ module _ (s : Run) where
     pub below : i < length (s .waiting)
     pub turn : wokenAt s i ≡ woken s
 
-  woken-at : (i : ℕ) → oldestOf (first (readyIn (s .tuples)) (s .waiting)) ≡ At i → WokenAt i
-  unfolding place
-  woken-at i e = go (first (readyIn (s .tuples)) (s .waiting)) refl e
-    where
-      go : (o : Option (Found Waiting)) → first (readyIn (s .tuples)) (s .waiting) ≡ o → oldestOf o ≡ At i → WokenAt i
-      go none q e = absurd (nobody i e)
-      go (some f) q e =
-          let g = first-some (readyIn (s .tuples)) (s .waiting) f q in
-          let same : i ≡ f .index = sym (same-index f i e) in
-          let p : getD (s .waiting) i noWaiting ≡ f .item = rw (g .split) (getD-at (g .front) (f .item) (g .back) noWaiting i (sym (same ∙ g .index))) in
-          record {
-            below = rw same (first-below (readyIn (s .tuples)) (s .waiting) f g);
-            turn = turn-at i f (unfold place in p) same ∙ sym (woken-found f q);
-          }
+  woken-at : (f : Found Waiting) → first (readyIn (s .tuples)) (s .waiting) ≡ some f → WokenAt (f .index)
+  woken-at f q =
+      let g = first-some (readyIn (s .tuples)) (s .waiting) f q in
+      let p : getD (s .waiting) (f .index) noWaiting ≡ f .item = rw (g .split) (getD-at (g .front) (f .item) (g .back) noWaiting (f .index) (sym (g .index))) in
+      record { below = first-below (readyIn (s .tuples)) (s .waiting) f g; turn = turn-at (f .index) f (unfold place in p) refl ∙ sym (woken-found f q) }
 
   -- a turn has bytes
   woken-long : (t : Turn) → wake s ≡ some t → replyHeaderSize ≤ length (repliesBytes (t .replies))
@@ -141,18 +115,26 @@ module _ (s : Run) where
 
 -- ---- as the code tells it, by whom it finds in the sections
 
-module _ (b : List ℕ) (ts : List Tuple) (ws : List Waiting) (r : Oldest) (h : IsStored b) (et : ts ≡ (decode b) .tuples) (ew : ws ≡ (decode b) .waiting) (e : r ≡ oldestOf (first (readyIn ts) ws)) where
-  found : (o : Oldest) → r ≡ o → oldestOf (first (readyIn ((decode b) .tuples)) ((decode b) .waiting)) ≡ o
-  found o q = (λ k. oldestOf (first (readyIn (sym et k)) (sym ew k))) ∙ sym e ∙ q
+module _ (b : List ℕ) (n : ℕ) (ts : List Tuple) (h : IsStored b) (et : ts ≡ (decode b) .tuples) (ew : waitingOf (queueLent b) n ≡ (decode b) .waiting) where
+  pub wakes-none : (out : List ℕ) → first (readyIn ts) (waitingOf (queueLent b) n) ≡ none → Turned (woken (decode b)) out b out 0
+  wakes-none out q = subst (λ (t : Turn). Turned t out b out 0) (sym (woken-none (decode b) (rw (et, ew) at q))) (turned-still (decode b) b out h)
 
-  pub wakes-none : (out : List ℕ) → r ≡ Nobody → Turned (woken (decode b)) out b out 0
-  wakes-none out q = subst (λ (t : Turn). Turned t out b out 0) (sym (woken-none (decode b) (found Nobody q))) (turned-still (decode b) b out h)
+  module _ (i : ℕ) (c : Choice) (r : RunsAt (queueLent b) n ts i c) where
+    pub wakes-at : WokenAt (decode b) i
+    wakes-at = woken-at (decode b) (record { index = i; item = waitingNth (queueLent b) n i }) (rw (et, ew) at (r .is))
 
-  pub wakes-at : (i : ℕ) → r ≡ At i → WokenAt (decode b) i
-  wakes-at i q = woken-at (decode b) i (found (At i) q)
+    -- a branch of it was chosen, since a guard of it holds
+    pub wakes-picked : PickedAt b i c
+    unfolding place
+    wakes-picked =
+        let st : Statement = (waitingNth (queueLent b) n i) .statement in
+        let holds : ready ts st ≡ true = is-true (ready ts st) (first-some (readyIn ts) (waitingOf (queueLent b) n) (record { index = i; item = waitingNth (queueLent b) n i }) (r .is) .passes) in
+        let none-chosen : (c .branch ≡ 0 → ⊥) = λ z. true≢false (sym holds ∙ chooses-none (bodyOf (queueLent b) i) ts st (c .branch) (c .at) (c .tuple) (r .chooses) z) in
+        let same : st ≡ (place (decode b) i) .statement = ap (λ (ws : List Waiting). getD ws i noWaiting .statement) ew in
+        (rw (et, same) at (r .chooses), none-chosen)
 
-  pub wakes-some : (i : ℕ) (buffer state out : List ℕ) (n : ℕ) → r ≡ At i → Turned (wokenAt (decode b) i) buffer state out n → Turned (woken (decode b)) buffer state out n
-  wakes-some i buffer state out n q t = subst (λ (t : Turn). Turned t buffer state out n) (wakes-at i q .turn) t
+    pub wakes-some : (buffer state out : List ℕ) (m : ℕ) → Turned (wokenAt (decode b) i) buffer state out m → Turned (woken (decode b)) buffer state out m
+    wakes-some buffer state out m t = subst (λ (t : Turn). Turned t buffer state out m) (wakes-at .turn) t
 
 -- ---- once what is owed is laid
 

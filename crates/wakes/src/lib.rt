@@ -5,17 +5,18 @@ ghost use Rattle.basis.specs.Sizes.{mostReply};
 ghost use Rattle.model.specs.Run.{laid, settle as settles};
 ghost use Rattle.layout.specs.States.{decode};
 ghost use Rattle.layout.specs.Stored.{IsStored, Turned};
-ghost use Rattle.wakes.specs.Woken.{Further, wokenAt, woken};
+ghost use Rattle.wakes.specs.Woken.{Further, PickedAt, wokenAt, woken};
 use oldest::Oldest;
+use walk::Choice;
 
-// The waiting statement at an index "runs and leaves the queue, whatever its outcome".
-fn wake_at(state: &mut [u8], i: usize, out: &mut [u8]) -> usize
-    requires { ⌜ IsStored (now state) × (i < length ((decode (now state)) .waiting)) × (mostReply ≤ length (now out)) ⌝ }
+// The waiting statement at an index "runs and leaves the queue, whatever its outcome": the branch that was chosen when it was found.
+fn wake_at(state: &mut [u8], i: usize, choice: Choice, out: &mut [u8]) -> usize
+    requires { ⌜ IsStored (now state) × (i < length ((decode (now state)) .waiting)) × PickedAt (now state) i choice × (mostReply ≤ length (now out)) ⌝ }
     ensures { λ r. ⌜ Turned (wokenAt (decode (now (state .entry))) i) (now (out .entry)) (now (state .exit)) (now (out .exit)) r × (r ≤ mostReply) ⌝ }
 {
     let mut body = [0u8; words::MOST_BODY];
     let who = leaving::leave(state, i, &mut body);
-    running::run_body(state, who.position, &body[..who.size], out)
+    running::run_chosen(state, who.position, &body[..who.size], choice, out)
 }
 
 // One turn of rule 7; 0 where no waiting statement has a guard that holds.
@@ -31,7 +32,7 @@ fn wake_one(state: &mut [u8], out: &mut [u8]) -> usize
         &state[words::TUPLES_AT..words::TUPLES_END],
         m,
     ) {
-        Oldest::At(i) => wake_at(state, i, out),
+        Oldest::At(i, choice) => wake_at(state, i, choice, out),
         Oldest::Nobody => 0,
     }
 }

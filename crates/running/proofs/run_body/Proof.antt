@@ -1,56 +1,30 @@
 -- `running::run_body` meets its contract. Assumes nothing.
-use native.Mathlib.Omega.{arith}
-use mathlib.Core.Path.{_∙_}
-use mathlib.Core.List.{List}
 use borrow.Author.Needs.{needs}
-use Rattle.model.specs.Value.{Value}
-use Prim.Native.Nat.{ℕ}
+use native.Mathlib.Omega.{arith}
 use Rattle.layout.specs.States.{decode}
 use Rattle.layout.specs.Stored.{statementOf}
-use Rattle.replies.specs.Written.{ranValues}
-use Rattle.walk.specs.BodyParts.{BodyParts}
-use Rattle.walk.specs.Walk.{body-is}
-use Rattle.running.specs.Answers.{ran-short, run-none, run-some}
+use Rattle.running.specs.Answers.{run-none}
 use Rattle.running.proofs.run_body.Statement.{statement}
 use Rattle.running.proofs.run_body.Tie as tie
 
--- it was tried
-module _ (c : tie.After-attempt-in) where
-  abbrev start : tie.Start
-  start = c .before .before .before .before .before
-
-  abbrev values : List (ℕ × Value)
-  values = let r = c .attempt-in .result in ranValues (r .outcome) (r .vars .bound) (r .vars .kinds) (r .vars .bits)
-
-  head : BodyParts (start .args .body .now) (statementOf (start .args .body .now))
-  head = body-is (start .args .body .now) (start .pre .1 .legal)
-
--- and a guard holds
-module _ (c : tie.Else1) where
-  abbrev tried : tie.After-attempt-in
-  tried = c .before .before .before .before
-
-attempt-in-requires : tie.Need-attempt-in-requires
-attempt-in-requires c κs = search needs
+choose-in-requires : tie.Need-choose-in-requires
+choose-in-requires c κs = let s = c .before .before .before .before in (s .pre .0, s .pre .1 .legal)
 
 same-length : tie.Need-same-length
 same-length c = search needs
 
 returns : tie.Need-returns
-returns c =
-    let did = c .before .before .before .before in
-    let a = start did .args in
-    let r = did .attempt-in .result in
-    (run-none (decode (a .state .now)) (a .position) (statementOf (a .body .now)) (did .attempt-in .last .0) (r .branch) (r .outcome) (values did) (a .out .now) (did .attempt-in .ensures) (c .if1 .taken), omega arith)
+returns c = let k = c .before .before in
+    let s = k .before .before .before .before .before in
+    let a = s .args in
+    let r = k .choose-in .result in
+    (run-none (decode (a .state .now)) (a .position) (statementOf (a .body .now)) (a .state .now) (a .body .now) (a .out .now) (r .branch) (r .at) (r .tuple) (s .pre .0) (k .choose-in .ensures) (c .if1 .taken), omega arith)
 
-shared-slice-read-ran-reply : tie.Need-shared-slice-read-ran-reply
-shared-slice-read-ran-reply c = omega (arith, head (tried (c .before .before .before .before .before .before)) .long)
-
-word2-requires : tie.Need-word2-requires
-word2-requires c κs = omega (arith, head (tried (c .before .before .before .before .before .before)) .long)
-
-ran-reply-requires : tie.Need-ran-reply-requires
-ran-reply-requires c κs = search needs
+run-chosen-requires : tie.Need-run-chosen-requires
+run-chosen-requires c κs = let e = c .before .before in
+    let k = e .before .before in
+    let s = k .before .before .before .before .before in
+    (s .pre .0, s .pre .1, (k .choose-in .ensures, e .if1 .left), s .pre .2)
 
 same-length-2 : tie.Need-same-length-2
 same-length-2 c = search needs
@@ -59,29 +33,16 @@ same-length-3 : tie.Need-same-length-3
 same-length-3 c = search needs
 
 returns-2 : tie.Need-returns-2
-returns-2 c =
-    let said = c .before .before in
-    let process = said .before in
-    let held = process .before .before .before .before .before .before .before in
-    let did = tried held in
-    let a = start did .args in
-    let r = did .attempt-in .result in
-    let w = said .ran-reply in (
-      run-some (decode (a .state .now)) (a .position) (statementOf (a .body .now)) (did .attempt-in .last .0) (r .branch) (r .outcome) (values did) _ (process .word2 .result) (a .out .now) (w .last .0) (w .result)
-          (did .attempt-in .ensures) (held .if1 .left) (head did .host) (process .word2 .ensures ∙ head did .process) (w .ensures),
-      ran-short (a .position) _ (process .word2 .result) (r .outcome) (r .branch) (r .vars .bound) (r .vars .kinds) (r .vars .bits) (a .out .now) (w .last .0) (w .result) (w .ensures),
-    )
+returns-2 c = search needs
 
 pub run-body-spec : {M : Type 1} → statement M
 run-body-spec =
     tie.close
     (tie.spec
-    attempt-in-requires
+    choose-in-requires
     same-length
     returns
-    shared-slice-read-ran-reply
-    word2-requires
-    ran-reply-requires
+    run-chosen-requires
     same-length-2
     same-length-3
     returns-2)
