@@ -1,6 +1,7 @@
 -- Rule 5: a branch as a whole, guard and body, and a statement with it. Assumes nothing.
 use mathlib.Core.Path.{_≡_, refl, sym, ap, subst, _∙_}
-use Prim.Native.Nat.{ℕ, zero, suc, _+_, _≤_, _<_}
+use Prim.Native.Nat.{ℕ, zero, suc, _+_, _*_, _≤_, _<_}
+use native.Mathlib.Omega.{arith}
 use native.Mathlib.Numerals.{add-one}
 use mathlib.Core.Option.{Option, none, some, Option·map, Option·some-injective}
 use mathlib.Core.List.{List, [], _∷_}
@@ -9,7 +10,7 @@ use lib.Dec.{T}
 use Rattle.basis.specs.Choice.{maybe}
 use Rattle.basis.specs.Logic.{and-r, both}
 use Rattle.basis.specs.Lists.{all, Found}
-use Rattle.basis.specs.Sizes.{countWidth, mostFields, mostBody}
+use Rattle.basis.specs.Sizes.{countWidth, mostFields, mostBody, tupleSize}
 use Rattle.model.specs.Statement as Model
 use Rattle.model.specs.Statement.{Branch, operations, Statement}
 use Rattle.model.specs.Reading.{_>>=_, give, several, branch}
@@ -19,7 +20,9 @@ use Rattle.model.specs.Execution.{Result, performAll, chosen, Executed, execute
 use Rattle.model.specs.BoundKinds.{agree-unbound}
 use Rattle.statements.specs.declared.OperationRead.{OperationRead}
 use Rattle.statements.specs.Flat.{operationIs, Reads, operationAt}
-use Rattle.tuples.specs.Section.{tuplesOf, Holds}
+use Rattle.words.specs.Over.{over}
+use Rattle.sections.specs.FirstRows.{over-section}
+use Rattle.tuples.specs.Section.{tupleShape, tuplesOf, Holds}
 use Rattle.bindings.specs.declared.Vars.{Vars}
 use Rattle.bindings.specs.Variables.{bindingsOf}
 use Rattle.walk.specs.Standing.{stand-as}
@@ -79,12 +82,18 @@ module _ (x : Result) (ts : List Tuple) (outcome m : ℕ) (w : Vars) (q : List �
       record { is = h .is; holds = subst (Holds q m) same (h .section) }
 
   -- the branch failed: the tuples are those before it
-  pub whole-failed : (outcome ≡ 0 → ⊥) → (p : List ℕ) (n : ℕ) → Holds p n ts → Whole x ts outcome n w p
-  whole-failed z p n s = go outcome z (h .is)
+  failed-whole : (outcome ≡ 0 → ⊥) → (p : List ℕ) (n : ℕ) → Holds p n ts → Whole x ts outcome n w p
+  failed-whole z p n s = go outcome z (h .is)
     where
       go : (k : ℕ) → (k ≡ 0 → ⊥) → resultIs k (bindingsOf w) (tuplesOf q m) ≡ x → Whole x ts k n w p
       go zero z e = absurd (z refl)
       go (suc k) z e = unfold resultIs tuplesAfter in record { is = e; holds = subst (λ (y : Result). Holds p n (tuplesAfter ts y)) e s }
+
+  -- the saved rows were put back, as many as there were before it or are after it
+  pub whole-failed : (outcome ≡ 0 → ⊥) → (p saved p′ : List ℕ) (n j : ℕ) → Holds p n ts → saved ≡ p → n ≤ j → m ≤ j → p′ ≡ over q 0 saved (j * tupleSize) → Whole x ts outcome n w p′
+  whole-failed z p saved p′ n j s e a b put =
+      let back : p′ ≡ p = put ∙ ap (λ (l : List ℕ). over q 0 l (j * tupleSize)) e ∙ over-section tupleShape q p m n j (tuplesOf q m) ts (h .section) s b a in
+      failed-whole z p′ n (subst (λ (l : List ℕ). Holds l n ts) (sym back) s)
 
 -- ---- a statement
 
@@ -116,7 +125,13 @@ chosen-read b ts o number at tuple (chosen-at {i} {br} e c f) z short r q =
       is = ap (Option·map (execute ts)) e ∙ (λ k. some (record { branch = sym (add-one i) k; result = performAll (g .1 k) unbound ts }));
     }
 
--- it ran, whole or not at all
+-- no guard holds
+pub unattempted : (b : List ℕ) (ts : List Tuple) (st : Statement) (number at tuple : ℕ) → Chooses b ts (chosen ts st) number at tuple → number ≡ 0 → (outcome n : ℕ) (v : Vars) (p : List ℕ) → Holds p n ts → Attempted (attempt ts st) ts number outcome n v p
+unfolding attempt ranIs
+unattempted b ts st number at tuple (nothing e) z outcome n v p h = rw e (record { is = refl; holds = h })
+unattempted b ts st number at tuple (chosen-at {i} e c f) z outcome n v p h = absurd (omega arith)
+
+-- the branch ran, whole or not at all
 pub attempted : (b : List ℕ) (ts : List Tuple) (st : Statement) (number tuple : ℕ) (r : OperationRead) → ChosenRead b ts (chosen ts st) number tuple r → (number ≡ 0 → ⊥)
     → (outcome n : ℕ) (v : Vars) (p : List ℕ) → Whole (performAll (branchOf b r) unbound ts) ts outcome n v p → Attempted (attempt ts st) ts number outcome n v p
 unfolding attempt

@@ -24,6 +24,7 @@ ghost use Rattle.engine.specs.Attempting.{GuardRead, bodyOf, branchOf, W
 use bindings::Vars;
 use operations::Done;
 use statements::Field;
+use statements::OUT;
 use statements::Operation;
 use statements::OperationRead;
 use statements::pass_operation;
@@ -88,6 +89,9 @@ fn run_branch(tuples: &mut [u8], n: usize, body: &[u8], guard: OperationRead, i:
 
 // ---- operations that cannot fail
 
+// The code of a move.
+const MOVE: u8 = 6;
+
 // A field that gives its value, or its variable's, as it is.
 fn is_plain(f: Field) -> bool
     ensures { λ r. ⌜ (r ≡ true → T (isPlain (fieldIs f))) ⌝ }
@@ -126,13 +130,13 @@ fn pass_unfailing(body: &[u8], at: usize, room: usize) -> Step
     ensures { λ r. ⌜ ((r .end ≡ 0 → ⊥) → Passes (now (body .entry)) at room (r .end) (r .room)) ⌝ }
 {
     let code = body[at];
-    if code == 6 {
+    if code == MOVE {
         return Step {
             end: pass_operation(body, at).end,
             room,
         };
     }
-    if code != 5 {
+    if code != OUT {
         return Step { end: 0, room };
     }
     if room == 0 {

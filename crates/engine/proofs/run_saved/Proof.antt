@@ -1,17 +1,16 @@
 -- `engine::run_saved` meets its contract. Assumes nothing.
 use borrow.Author.Needs.{needs}
-use mathlib.Core.Path.{_≡_, sym, ap, subst, _∙_}
-use Prim.Native.Nat.{ℕ, _*_}
+use mathlib.Core.Path.{_≡_, ap, _∙_}
+use Prim.Native.Nat.{ℕ}
 use native.Mathlib.Omega.{arith}
 use mathlib.Core.List.{List}
 use lib.ListN.{length}
 use denote.Ref.{now}
 use Rattle.basis.specs.Lists.{zeros}
-use Rattle.basis.specs.Sizes.{tupleSize, tuplesSize}
-use Rattle.words.specs.Over.{over}
-use Rattle.tuples.specs.Section.{tupleShape, tuplesOf, Holds}
+use Rattle.basis.specs.Sizes.{tuplesSize}
+use Rattle.tuples.specs.Section.{tupleShape, tuplesOf}
 use Rattle.sections.specs.Shapes.{holds-length}
-use Rattle.sections.specs.FirstRows.{over-zeros, over-section}
+use Rattle.sections.specs.FirstRows.{over-zeros}
 use Rattle.engine.specs.Attempting.{whole-done, whole-failed}
 use Rattle.engine.proofs.run_saved.Statement.{statement}
 use Rattle.engine.proofs.run_saved.Tie as tie
@@ -83,14 +82,9 @@ returns c =
     let wide = back .before in
     let ran = run wide in
     let at = first ran in
-    let a = start at .args in
     let r = ran .run-branch .result in
-    let q = ran .run-branch .last .0 in
-    let h = ran .run-branch .ensures .0 in
-    let restored : back .copy-rows2 .last .0 ≡ section at =
-    back .copy-rows2 .ensures ∙ ap (λ (s : List ℕ). over q 0 s (wide .larger .result * tupleSize)) (saved ran)
-    ∙ over-section tupleShape q (section at) (r .n) (a .n) (wide .larger .result) _ _ (h .section) (start at .pre .0) (wide .larger .ensures .1) (wide .larger .ensures .0) in
-    whole-failed _ (tuplesOf (section at) (a .n)) (r .outcome) (r .n) (r .vars) q h (wide .before .before .before .if1 .taken) _ (a .n) (subst (λ (p : List ℕ). Holds p (a .n) (tuplesOf (section at) (a .n))) (sym restored) (start at .pre .0))
+    whole-failed _ (tuplesOf (section at) (start at .args .n)) (r .outcome) (r .n) (r .vars) (ran .run-branch .last .0) (ran .run-branch .ensures .0) (wide .before .before .before .if1 .taken) (section at) _ _ (start at .args .n) (wide .larger .result)
+    (start at .pre .0) (saved ran) (wide .larger .ensures .0) (wide .larger .ensures .1) (back .copy-rows2 .ensures)
 
 same-length-2 : tie.Need-same-length-2
 same-length-2 c = c .before .before .before .before .run-branch .kept .0
