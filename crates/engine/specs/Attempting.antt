@@ -125,12 +125,6 @@ chosen-read b ts o number at tuple (chosen-at {i} {br} e c f) z short r q =
       is = ap (Option·map (execute ts)) e ∙ (λ k. some (record { branch = sym (add-one i) k; result = performAll (g .1 k) unbound ts }));
     }
 
--- no guard holds
-pub unattempted : (b : List ℕ) (ts : List Tuple) (st : Statement) (number at tuple : ℕ) → Chooses b ts (chosen ts st) number at tuple → number ≡ 0 → (outcome n : ℕ) (v : Vars) (p : List ℕ) → Holds p n ts → Attempted (attempt ts st) ts number outcome n v p
-unfolding attempt ranIs
-unattempted b ts st number at tuple (nothing e) z outcome n v p h = rw e (record { is = refl; holds = h })
-unattempted b ts st number at tuple (chosen-at {i} e c f) z outcome n v p h = absurd (omega arith)
-
 -- the branch ran, whole or not at all
 pub attempted : (b : List ℕ) (ts : List Tuple) (st : Statement) (number tuple : ℕ) (r : OperationRead) → ChosenRead b ts (chosen ts st) number tuple r → (number ≡ 0 → ⊥)
     → (outcome n : ℕ) (v : Vars) (p : List ℕ) → Whole (performAll (branchOf b r) unbound ts) ts outcome n v p → Attempted (attempt ts st) ts number outcome n v p

@@ -30,7 +30,13 @@ fn execute_in(state: &mut [u8], body: &[u8], choice: Choice) -> Ran
 }
 
 // A statement runs the branch that was chosen, and is answered at a position.
-pub fn run_chosen(state: &mut [u8], position: u32, body: &[u8], choice: Choice, out: &mut [u8]) -> usize
+pub fn run_chosen(
+    state: &mut [u8],
+    position: u32,
+    body: &[u8],
+    choice: Choice,
+    out: &mut [u8],
+) -> usize
     requires { ⌜ IsStored (now state) × MayRun (decode (now state)) (now body) × Picked (decode (now state)) (now body) choice × (mostReply ≤ length (now out)) ⌝ }
     ensures { λ r. ⌜ Turned (executed (decode (now (state .entry))) position (statementOf (now (body .entry)))) (now (out .entry)) (now (state .exit)) (now (out .exit)) r × (r ≤ mostReply) ⌝ }
 {

@@ -84,10 +84,11 @@ module _ (s : Run) where
     pub turn : wokenAt s i ≡ woken s
 
   woken-at : (f : Found Waiting) → first (readyIn (s .tuples)) (s .waiting) ≡ some f → WokenAt (f .index)
+  unfolding place
   woken-at f q =
       let g = first-some (readyIn (s .tuples)) (s .waiting) f q in
       let p : getD (s .waiting) (f .index) noWaiting ≡ f .item = rw (g .split) (getD-at (g .front) (f .item) (g .back) noWaiting (f .index) (sym (g .index))) in
-      record { below = first-below (readyIn (s .tuples)) (s .waiting) f g; turn = turn-at (f .index) f (unfold place in p) refl ∙ sym (woken-found f q) }
+      record { below = first-below (readyIn (s .tuples)) (s .waiting) f g; turn = turn-at (f .index) f p refl ∙ sym (woken-found f q) }
 
   -- a turn has bytes
   woken-long : (t : Turn) → wake s ≡ some t → replyHeaderSize ≤ length (repliesBytes (t .replies))
@@ -121,7 +122,7 @@ module _ (b : List ℕ) (n : ℕ) (ts : List Tuple) (h : IsStored b) (et : ts �
 
   module _ (i : ℕ) (c : Choice) (r : RunsAt (queueLent b) n ts i c) where
     pub wakes-at : WokenAt (decode b) i
-    wakes-at = woken-at (decode b) (record { index = i; item = waitingNth (queueLent b) n i }) (rw (et, ew) at (r .is))
+    wakes-at = woken-at (decode b) (record { index = i; item = waitingNth (queueLent b) n i }) ((λ k. first (readyIn (sym et k)) (sym ew k)) ∙ r .is)
 
     -- a branch of it was chosen, since a guard of it holds
     pub wakes-picked : PickedAt b i c

@@ -1,7 +1,7 @@
 -- `wakes::wake_one` meets its contract. Assumes nothing.
 use Prim.Native.Nat.{ℕ}
 use native.Mathlib.Omega.{arith}
-use mathlib.Core.Path.{_≡_}
+use mathlib.Core.Path.{_≡_, subst}
 use mathlib.Core.List.{List}
 use borrow.Author.Needs.{needs}
 use Rattle.layout.specs.States.{decode}
@@ -11,7 +11,9 @@ use Rattle.queue.specs.Queue.{waitingOf}
 use Rattle.header.specs.Rows.{queueLent, tuplesLent}
 use Rattle.lent.specs.Sections.{queue-read, is-queued}
 use Rattle.state.specs.Lent.{tuples-read, is-section}
-use Rattle.wakes.specs.Turns.{WokenAt, wakes-none, wakes-at, wakes-some}
+use Rattle.walk.specs.declared.Choice.{Choice}
+use Rattle.oldest.specs.Searching.{RunsAt, Answers}
+use Rattle.wakes.specs.Turns.{WokenAt, wakes-none, wakes-at, wakes-picked, wakes-some}
 use Rattle.wakes.proofs.wake_one.Statement.{statement}
 use Rattle.wakes.proofs.wake_one.Tie as tie
 
@@ -46,8 +48,14 @@ module _ (c : tie.After-i) where
   abbrev index : ℕ
   index = c .i .given .0 .0
 
-  runs : WokenAt (decode (bytes counted)) index
-  runs = wakes-at (bytes counted) _ _ (asked .oldest-ready .result) (start counted .pre .0) (tuples-are counted) (queue-is counted) (asked .oldest-ready .ensures) index (c .i .given .1)
+  abbrev choice : Choice
+  choice = c .i .given .0 .1 .0
+
+  runs : RunsAt (queueLent (bytes counted)) (waits counted .waiting-count .result) (tuplesOf (tuplesLent (bytes counted)) (counted .tuple-count .result)) index choice
+  runs = subst (Answers _ _ _) (c .i .given .1) (asked .oldest-ready .ensures)
+
+  woke : WokenAt (decode (bytes counted)) index
+  woke = wakes-at (bytes counted) _ _ (start counted .pre .0) (tuples-are counted) (queue-is counted) index choice runs
 
 waiting-count-requires : tie.Need-waiting-count-requires
 waiting-count-requires c κs = omega arith
@@ -86,7 +94,9 @@ wake-at-requires : tie.Need-wake-at-requires
 wake-at-requires c κs =
     let found = c .before .before .before in
     let s = start (counted found) in
-    (s .pre .0, runs found .below, omega (arith, runs found .below, s .pre .1))
+    let k = counted found in
+    let b = woke found .below in
+    (s .pre .0, b, wakes-picked (bytes k) _ _ (s .pre .0) (tuples-are k) (queue-is k) (index found) (choice found) (runs found), omega (arith, b, s .pre .1))
 
 enum-told : tie.Need-enum-told
 enum-told c = search needs
@@ -99,11 +109,11 @@ same-length-2 c = search needs
 
 returns : tie.Need-returns
 returns c =
-    let woke = c .before .before .before .before in
-    let found = woke .before .before .before .before in
+    let done = c .before .before .before .before in
+    let found = done .before .before .before .before in
     let k = counted found in
-    let w = woke .wake-at in
-    (wakes-some (bytes k) _ _ (asked found .oldest-ready .result) (start k .pre .0) (tuples-are k) (queue-is k) (asked found .oldest-ready .ensures) (index found) (start k .args .out .now) (w .last .0) (w .last .1 .1 .0) (w .result) (found .i .given .1) (w .ensures .0), w .ensures .1)
+    let w = done .wake-at in
+    (wakes-some (bytes k) _ _ (start k .pre .0) (tuples-are k) (queue-is k) (index found) (choice found) (runs found) (start k .args .out .now) (w .last .0) (w .last .1 .1 .1 .0) (w .result) (w .ensures .0), w .ensures .1)
 
 same-length-3 : tie.Need-same-length-3
 same-length-3 c = search needs
@@ -112,7 +122,7 @@ returns-2 : tie.Need-returns-2
 returns-2 c =
     let ready = c .before .before in
     let k = ready .before .before .before .before in
-    (wakes-none (bytes k) _ _ (ready .oldest-ready .result) (start k .pre .0) (tuples-are k) (queue-is k) (ready .oldest-ready .ensures) (start k .args .out .now) (c .enum-told .given .1), omega arith)
+    (wakes-none (bytes k) _ _ (start k .pre .0) (tuples-are k) (queue-is k) (start k .args .out .now) (subst (Answers _ _ _) (c .enum-told .given .1) (ready .oldest-ready .ensures)), omega arith)
 
 pub wake-one-spec : {M : Type 1} → statement M
 wake-one-spec =
