@@ -23,7 +23,8 @@ use Rattle.model.specs.ReadBack.{then-some}
 use Rattle.statements.specs.At.{which}
 use Rattle.statements.specs.Fixed.{fixed-byte}
 use Rattle.statements.specs.Operations.{suffix-operation}
-use Rattle.statements.specs.Flat.{fieldOf, fieldIs, fewFields, operationOf, operationIs, Reads, operationAt, bareAt, bareIs}
+use Rattle.statements.specs.Flat.{fieldOf, fieldIs, fewFields, operationOf, operationIs, Reads, operationAt}
+use Rattle.statements.specs.Front.{bareAt, bareIs}
 use Rattle.statements.specs.declared.Field.{Field}
 use Rattle.statements.specs.declared.Operation.{Operation}
 use Rattle.statements.specs.declared.OperationRead.{OperationRead}

@@ -1,4 +1,4 @@
-// Rules 2 to 5: the branch that was chosen of a statement, on the tuples of a state.
+// Rules 3 to 5: the branch that was chosen of a statement, on the tuples of a state.
 ghost use mathlib.Core.Path.{_≡_};
 ghost use Prim.Native.Nat.{_≤_, _<_};
 ghost use mathlib.Core.Bool.{true};
@@ -68,7 +68,7 @@ fn run_operations(
     }
 }
 
-// Rules 2 to 5 on a branch whose guard was read, and finds the tuple at index i: its guard, then its body.
+// Rules 3 to 5 on a branch whose guard was read, and finds the tuple at index i: its guard, then its body.
 fn run_branch(tuples: &mut [u8], n: usize, body: &[u8], guard: OperationRead, i: usize) -> Done
     requires { ⌜ Section (now tuples) n × GuardRead (now body) guard × Finds (tuplesOf (now tuples) n) (operationIs (guard .operation)) i ⌝ }
     ensures { λ r. ⌜ Leaves (performAll (branchOf (now (body .entry)) guard) unbound (tuplesOf (now (tuples .entry)) n)) (r .outcome) (r .n) (r .vars) (now (tuples .exit)) × (CannotFail (roomAfter (guard .operation .code) n) (bodyOf (now (body .entry)) guard) → r .outcome ≡ 0) ⌝ }
@@ -203,7 +203,7 @@ fn run_saved(tuples: &mut [u8], n: usize, body: &[u8], guard: OperationRead, i: 
     d
 }
 
-// Rule 5: the branch runs in place, on saved tuples only where it can fail.
+// Rule 5: the branch runs in place; the tuples are saved only where it can fail.
 fn run_whole(tuples: &mut [u8], n: usize, body: &[u8], guard: OperationRead, i: usize) -> Done
     requires { ⌜ Section (now tuples) n × GuardRead (now body) guard × Finds (tuplesOf (now tuples) n) (operationIs (guard .operation)) i ⌝ }
     ensures { λ r. ⌜ Whole (performAll (branchOf (now (body .entry)) guard) unbound (tuplesOf (now (tuples .entry)) n)) (tuplesOf (now (tuples .entry)) n) (r .outcome) (r .n) (r .vars) (now (tuples .exit)) ⌝ }
@@ -224,7 +224,7 @@ pub struct Ran {
     pub vars: Vars,
 }
 
-// Rules 2 to 5 with the branch that was chosen, whole or not at all.
+// Rules 3 to 5 with the branch that was chosen, whole or not at all.
 pub fn execute(tuples: &mut [u8], n: usize, body: &[u8], choice: Choice) -> Ran
     requires { ⌜ Section (now tuples) n × T (legalBody (now body)) × Chooses (now body) (tuplesOf (now tuples) n) (chosen (tuplesOf (now tuples) n) (statementOf (now body))) (choice .branch) (choice .at) (choice .tuple) × (choice .branch ≡ 0 → ⊥) ⌝ }
     ensures { λ r. ⌜ Attempted (attempt (tuplesOf (now (tuples .entry)) n) (statementOf (now (body .entry)))) (tuplesOf (now (tuples .entry)) n) (r .branch) (r .outcome) (r .n) (r .vars) (now (tuples .exit)) ⌝ }

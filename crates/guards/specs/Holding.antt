@@ -22,15 +22,15 @@ use Rattle.guards.specs.Searching.{guard-template}
 
 -- a guard that is not true, its template, and the tuple that was looked for
 module _ (o : Operation) (p : List ℕ) (n : ℕ) (bs : Bindings) (t : Template) (r : Found) (g : T (isGuard (operationIs o))) (z : o .code ≡ 0 → ⊥) (eb : bs ≡ unbound) (et : templateIs t ≡ template bs (o .from) (fieldsIn o)) (er : foundIs p r ≡ first (isMatch (templateIs t)) (tuplesOf p n)) where
-  sought : isSome (foundIs p r) ≡ holds (tuplesOf p n) (operationIs o)
-  sought =
+  found-is : isSome (foundIs p r) ≡ holds (tuplesOf p n) (operationIs o)
+  found-is =
       ap isSome er ∙ first-any (isMatch (templateIs t)) (tuplesOf p n)
       ∙ sym (guard-template o (tuplesOf p n) t g z (et ∙ ap (λ (x : Bindings). template x (o .from) (fieldsIn o)) eb))
 
   pub found-holds : (i : ℕ) → r ≡ At i → true ≡ holds (tuplesOf p n) (operationIs o)
   unfolding foundIs isSome
-  found-holds i e = sym (ap (λ (x : Found). isSome (foundIs p x)) e) ∙ sought
+  found-holds i e = sym (ap (λ (x : Found). isSome (foundIs p x)) e) ∙ found-is
 
   pub nothing-holds : r ≡ Nothing → false ≡ holds (tuplesOf p n) (operationIs o)
   unfolding foundIs isSome
-  nothing-holds e = sym (ap (λ (x : Found). isSome (foundIs p x)) e) ∙ sought
+  nothing-holds e = sym (ap (λ (x : Found). isSome (foundIs p x)) e) ∙ found-is

@@ -8,6 +8,7 @@ use mathlib.Core.Option.{Option, none, some, Option·none-ne-some}
 use mathlib.Core.List.{List, [], _∷_}
 use mathlib.Core.Logic.{_⊎_, inl, inr}
 use lib.ListN.{drop, getD}
+use borrow.Author.Tests.{ne-eqb}
 use lib.Dec.{T}
 use Rattle.basis.specs.Choice.{maybe, isSome}
 use Rattle.basis.specs.Logic.{and-l}
@@ -26,7 +27,9 @@ use Rattle.statements.specs.declared.Operation.{Operation}
 use Rattle.statements.specs.declared.OperationRead.{OperationRead}
 use Rattle.statements.specs.At.{position}
 use Rattle.statements.specs.Ends.{endAt}
-use Rattle.statements.specs.Flat.{operationOf, operationIs, fewFields, bare}
+use Rattle.statements.specs.Codes.{blocking-of}
+use Rattle.statements.specs.Flat.{operationOf, operationIs, fewFields}
+use Rattle.statements.specs.Front.{bare}
 use Rattle.tuples.specs.Section.{tupleAt, tuplesOf}
 use Rattle.matching.specs.declared.Template.{Template}
 use Rattle.matching.specs.Meaning.{templateIs, foundIs}
@@ -203,24 +206,12 @@ module _ (b : List ℕ) (ts : List Tuple) (st : Statement) (number at tuple : �
 
 -- in and rd block
 pub code-blocks : (r : Bare) → (r .code ≡ 1) ⊎ (r .code ≡ 3) → isBlocking (operationOf (r .code) (r .from) (r .to) []) ≡ true
-unfolding operationOf isBlocking
-code-blocks r (inl e) = rw e
-code-blocks r (inr e) = rw e
+code-blocks r (inl e) = blocking-of (r .code) (r .from) (r .to) [] ∙ rw e
+code-blocks r (inr e) = blocking-of (r .code) (r .from) (r .to) [] ∙ rw e
 
 -- the others do not
 pub code-passes : (r : Bare) → (r .code ≡ 1 → ⊥) → (r .code ≡ 3 → ⊥) → isBlocking (operationOf (r .code) (r .from) (r .to) []) ≡ false
-unfolding operationOf isBlocking
-code-passes r a b = go (r .code) a b
-  where
-    go : (n : ℕ) → (n ≡ 1 → ⊥) → (n ≡ 3 → ⊥) → isBlocking (operationOf n (r .from) (r .to) []) ≡ false
-    go zero a b = refl
-    go (suc zero) a b = absurd (a refl)
-    go (suc (suc zero)) a b = refl
-    go (suc (suc (suc zero))) a b = absurd (b refl)
-    go (suc (suc (suc (suc zero)))) a b = refl
-    go (suc (suc (suc (suc (suc zero))))) a b = refl
-    go (suc (suc (suc (suc (suc (suc zero)))))) a b = refl
-    go (suc (suc (suc (suc (suc (suc (suc n))))))) a b = refl
+code-passes r a b = blocking-of (r .code) (r .from) (r .to) [] ∙ rw (ne-eqb (r .code) 1 a, ne-eqb (r .code) 3 b)
 
 -- whatever the fields
 bare-blocks : (o : Model.Operation) → isBlocking (bare o) ≡ isBlocking o

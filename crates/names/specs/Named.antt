@@ -14,8 +14,8 @@ use Rattle.model.specs.Reading.{operation, branch}
 use Rattle.model.specs.Statement.{Operation, Branch, operations, spacesOf, spacesNamed}
 use Rattle.model.specs.Legal.{legalBody}
 use Rattle.layout.specs.Stored.{statementOf}
-use Rattle.statements.specs.Flat.{operationOf, operationAt, bare, bareAt, bareIs}
-use Rattle.statements.specs.Front.{spaces-bare}
+use Rattle.statements.specs.Flat.{operationOf, operationAt}
+use Rattle.statements.specs.Front.{bare, bareAt, bareIs, spaces-bare}
 use Rattle.statements.specs.declared.Bare.{Bare}
 use Rattle.walk.specs.Standing.{none-left, no-items}
 use Rattle.walk.specs.Walk.{Operations, operationsAt, afterOperations, Branches, branchesFrom, PassedNext, pass-next, pass-past, PassedBranch, pass-branch, stop-is, body-is, body-branches}

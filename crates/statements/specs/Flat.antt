@@ -1,25 +1,22 @@
 -- What the flat structs are: a field by its form, an operation by its code, with its first `count` fields. Assumes nothing.
 use mathlib.Core.Path.{_≡_, _∙_}
 use Prim.Native.Nat.{ℕ, _≤_, _<_}
-use mathlib.Core.Bool.{Bool, true, false, cond}
-use mathlib.Core.Option.{Option, none, some, Option·map}
+use mathlib.Core.Bool.{Bool, true, false}
+use mathlib.Core.Option.{Option}
 use mathlib.Core.List.{List, [], _∷_, map}
 use lib.ListN.{length, take, getD}
-use lib.Dec.{T, leb, ltb, eqb}
-use Rattle.basis.specs.Choice.{maybe}
+use lib.Dec.{T, leb, ltb}
 use Rattle.basis.specs.Lists.{all}
 use Rattle.basis.specs.Sizes.{mostFields}
 use Rattle.model.specs.Value.{value}
 use Rattle.model.specs.Statement as model
 use Rattle.model.specs.Statement.{actual, formal, reference, sum, difference, anonymous, always, lookup, deposit, transfer}
 use Rattle.model.specs.Legal.{fieldsOf}
-use Rattle.model.specs.Reading.{several, field, operation}
+use Rattle.model.specs.Reading.{operation}
 use Rattle.statements.specs.At.{readAt, passed, found}
-use Rattle.statements.specs.declared.Bare.{Bare}
 use Rattle.statements.specs.declared.Field.{Field}
 use Rattle.statements.specs.declared.FieldRead.{FieldRead}
 use Rattle.statements.specs.declared.FieldsRead.{FieldsRead}
-use Rattle.statements.specs.declared.Front.{Front}
 use Rattle.statements.specs.declared.Operation.{Operation}
 use Rattle.statements.specs.declared.OperationRead.{OperationRead}
 
@@ -94,35 +91,3 @@ none-formed o e = rw e tt
 
 pub reads-as : (r : OperationRead) (o same : Option (model.Operation × ℕ)) → Reads r o → o ≡ same → Reads r same
 reads-as r o same h e = record { is = h .is ∙ e; code = h .code; count = h .count; formed = h .formed }
-
--- ---- what stands before the fields
-
--- the operation of a front: its fields stand from a position on; position 0: there is none
-unfoldable pub afterFront : Front → List ℕ → Option (model.Operation × ℕ)
-afterFront f b = cond (eqb (f .at) 0) none (maybe (readAt (several field (f .count)) b (f .at)) none (λ r. some (operationOf (f .code) (f .from) (f .to) (r .0), r .1)))
-
--- a front was read so: it is that of this operation, of one of the eight codes, with at most as many fields as a tuple has values
-pub record Fronts (f : Front) (b : List ℕ) (o : Option (model.Operation × ℕ)) : Type 0 where
-  pub is : afterFront f b ≡ o
-  pub code : f .code < codes
-  pub count : f .count ≤ mostFields
-  pub within : f .at ≤ length b
-
-pub fronts-as : (f : Front) (b : List ℕ) (o same : Option (model.Operation × ℕ)) → Fronts f b o → o ≡ same → Fronts f b same
-fronts-as f b o same h e = record { is = h .is ∙ e; code = h .code; count = h .count; within = h .within }
-
--- ---- an operation without its fields
-
-unfoldable pub bare : model.Operation → model.Operation
-bare always = always
-bare (lookup withdraws blocks s fs) = lookup withdraws blocks s []
-bare (deposit s fs) = deposit s []
-bare (transfer withdraws from to fs) = transfer withdraws from to []
-
--- with the position after it
-unfoldable pub bareAt : Option (model.Operation × ℕ) → Option (model.Operation × ℕ)
-bareAt o = Option·map (λ r. (bare (r .0), r .1)) o
-
--- what was passed over; end 0: there is none
-unfoldable pub bareIs : Bare → Option (model.Operation × ℕ)
-bareIs r = found (r .end) (operationOf (r .code) (r .from) (r .to) [])

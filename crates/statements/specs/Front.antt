@@ -2,11 +2,12 @@
 use mathlib.Core.Path.{_≡_, refl, sym, ap, _∙_}
 use Prim.Native.Nat.{ℕ, zero, suc, _+_, _≤_, _<_}
 use native.Mathlib.Omega.{arith}
-use mathlib.Core.Bool.{Bool, true}
-use mathlib.Core.Option.{Option, none, some, Option·some-injective, Option·none-ne-some}
+use mathlib.Core.Bool.{Bool, true, cond}
+use mathlib.Core.Option.{Option, none, some, Option·map, Option·some-injective, Option·none-ne-some}
 use mathlib.Core.List.{List, [], _∷_}
 use lib.ListN.{length, take, getD}
-use borrow.Author.Tests.{eq-eqb, ne-eqb}
+use lib.Dec.{eqb}
+use borrow.Author.Tests.{ne-eqb}
 use Rattle.basis.specs.Choice.{maybe, provided}
 use Rattle.basis.specs.Lists.{all}
 use Rattle.basis.specs.Numbers.{numberAt}
@@ -14,41 +15,73 @@ use Rattle.basis.specs.Sizes.{codeWidth, countWidth, spaceWidth, mostFields}
 use Rattle.model.specs.Statement as model
 use Rattle.model.specs.Statement.{always, lookup, deposit, transfer, spacesOf}
 use Rattle.model.specs.Reading.{give, several, field}
-use Rattle.statements.specs.At.{readAt, passed, passed-none, ended, position, found, some-readAt, found-none}
+use Rattle.statements.specs.At.{readAt, passed, passed-none, ended, position, found, some-readAt}
 use Rattle.statements.specs.Ends.{endAt}
 use Rattle.statements.specs.Fields.{fieldEnd, fieldParts, field-read}
-use Rattle.statements.specs.Flat.{codes, fieldsAre, fieldsRead, operationOf, fewFields, operationAt, afterFront, Fronts, bare, bareAt, bareIs}
+use Rattle.statements.specs.Flat.{codes, fieldsAre, fieldsRead, operationOf, fewFields, operationAt}
 use Rattle.statements.specs.Operations.{fieldsMade, afterCode, namedWidth, secondSpace, after-short, after-there, operation-always, fields-few, fields-many}
 use Rattle.statements.specs.declared.Bare.{Bare}
 use Rattle.statements.specs.declared.FieldsRead.{FieldsRead}
 use Rattle.statements.specs.declared.Front.{Front}
 
+-- ---- what stands before the fields
+
+-- the operation of a front: its fields stand from a position on; position 0: there is none
+unfoldable pub afterFront : Front → List ℕ → Option (model.Operation × ℕ)
+afterFront f b = cond (eqb (f .at) 0) none (maybe (readAt (several field (f .count)) b (f .at)) none (λ r. some (operationOf (f .code) (f .from) (f .to) (r .0), r .1)))
+
+-- a front was read so: it is that of this operation, of one of the eight codes, with at most as many fields as a tuple has values
+pub record Fronts (f : Front) (b : List ℕ) (o : Option (model.Operation × ℕ)) : Type 0 where
+  pub is : afterFront f b ≡ o
+  pub code : f .code < codes
+  pub count : f .count ≤ mostFields
+  pub within : f .at ≤ length b
+
+pub fronts-as : (f : Front) (b : List ℕ) (o same : Option (model.Operation × ℕ)) → Fronts f b o → o ≡ same → Fronts f b same
+fronts-as f b o same h e = record { is = h .is ∙ e; code = h .code; count = h .count; within = h .within }
+
+-- ---- an operation without its fields
+
+unfoldable pub bare : model.Operation → model.Operation
+bare always = always
+bare (lookup withdraws blocks s fs) = lookup withdraws blocks s []
+bare (deposit s fs) = deposit s []
+bare (transfer withdraws from to fs) = transfer withdraws from to []
+
+-- with the position after it
+unfoldable pub bareAt : Option (model.Operation × ℕ) → Option (model.Operation × ℕ)
+bareAt o = Option·map (λ r. (bare (r .0), r .1)) o
+
+-- what was passed over; end 0: there is none
+unfoldable pub bareIs : Bare → Option (model.Operation × ℕ)
+bareIs r = found (r .end) (operationOf (r .code) (r .from) (r .to) [])
+
 -- ---- where fields end
 
 -- a test that every field passes
-abbrev pub any : model.Field → Bool
-any f = true
+abbrev pub every : model.Field → Bool
+every f = true
 
-pub field-end : (b : List ℕ) (at : ℕ) → position (fieldEnd b at) ≡ endAt field any b at
+pub field-end : (b : List ℕ) (at : ℕ) → position (fieldEnd b at) ≡ endAt field every b at
 unfolding endAt ended passed provided
 field-end b at = rw (field-read b at) (go (fieldEnd b at))
   where
-    go : (end : ℕ) → position end ≡ ended (passed any (found end (fieldParts b at)))
+    go : (end : ℕ) → position end ≡ ended (passed every (found end (fieldParts b at)))
     go zero = unfold position found ended passed in refl
     go (suc end) = unfold position found ended passed provided in refl
 
-all-any : (l : List model.Field) → all any l ≡ true
+all-every : (l : List model.Field) → all every l ≡ true
 unfolding all
-all-any [] = refl
-all-any (f ∷ l) = all-any l
+all-every [] = refl
+all-every (f ∷ l) = all-every l
 
-pub fields-end : (count : ℕ) (b : List ℕ) (at : ℕ) → endAt (several field count) (all any) b at ≡ ended (readAt (several field count) b at)
+pub fields-end : (count : ℕ) (b : List ℕ) (at : ℕ) → endAt (several field count) (all every) b at ≡ ended (readAt (several field count) b at)
 unfolding endAt
 fields-end count b at = go (readAt (several field count) b at)
   where
-    go : (o : Option (List model.Field × ℕ)) → ended (passed (all any) o) ≡ ended o
+    go : (o : Option (List model.Field × ℕ)) → ended (passed (all every) o) ≡ ended o
     go none = unfold passed in refl
-    go (some r) = unfold passed provided in rw (all-any (r .0))
+    go (some r) = unfold passed provided in rw (all-every (r .0))
 
 -- ---- the front
 

@@ -18,8 +18,9 @@ use Rattle.model.specs.Matching.{Tuple}
 use Rattle.model.specs.Execution.{holds, guardHolds, ready, isBlocking, canWait}
 use Rattle.model.specs.Run.{Space}
 use Rattle.layout.specs.Stored.{statementOf}
-use Rattle.statements.specs.Flat.{operationOf, operationIs, Reads, operationAt, bare}
-use Rattle.statements.specs.Front.{bare-of}
+use Rattle.statements.specs.Codes.{blocking-of}
+use Rattle.statements.specs.Flat.{operationOf, operationIs, Reads, operationAt}
+use Rattle.statements.specs.Front.{bare, bare-of}
 use Rattle.statements.specs.declared.Bare.{Bare}
 use Rattle.statements.specs.declared.Operation.{Operation}
 use Rattle.statements.specs.declared.OperationRead.{OperationRead}
@@ -31,19 +32,6 @@ use Rattle.names.specs.declared.SpaceTest.the-variants.{Shut}
 use Rattle.waiting.specs.Waits.{waits}
 
 -- ---- in and rd
-
-blocking-of : (code from to : ℕ) (fs : List model.Field) → isBlocking (operationOf code from to fs) ≡ (eqb code 1 || eqb code 3)
-unfolding operationOf isBlocking
-blocking-of zero from to fs = refl
-blocking-of (suc zero) from to fs = refl
-blocking-of (suc (suc zero)) from to fs = refl
-blocking-of (suc (suc (suc zero))) from to fs = refl
-blocking-of (suc (suc (suc (suc zero)))) from to fs = refl
-blocking-of (suc (suc (suc (suc (suc zero))))) from to fs = refl
-blocking-of (suc (suc (suc (suc (suc (suc zero)))))) from to fs = refl
-blocking-of (suc (suc (suc (suc (suc (suc (suc n))))))) from to fs =
-    let code : ℕ = suc (suc (suc (suc (suc (suc (suc n)))))) in
-    rw (ne-eqb code 1 (λ z. omega arith), ne-eqb code 3 (λ z. omega arith))
 
 -- the tests of a code, after those before it
 module _ (before : Bool) (o : Operation) where

@@ -80,7 +80,7 @@ fn some_blocks(before: bool, guard: Operation) -> bool
     guard.code == 3
 }
 
-// The statement of a legal body "names only spaces open to that process", "has an in or rd guard and no guard that holds". One walk, branch by
+// The statement of a legal body "names only spaces open to that process", "has an in or rd guard, and no guard that holds". One walk, branch by
 // branch: the spaces of the guard and of its operations, and only then the search for the guard's tuple.
 fn waits(body: &[u8], process: u16, spaces: &[u8], n: usize, tuples: &[u8], m: usize) -> bool
     requires { ⌜ T (legalBody (now body)) × IsListed (now spaces) n × Rising (spacesOf (now spaces) n) × (length (now tuples) ≡ tuplesSize) × (m ≤ mostTuples) ⌝ }

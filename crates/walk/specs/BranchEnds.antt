@@ -10,7 +10,8 @@ use Rattle.basis.specs.Lists.{all}
 use Rattle.model.specs.Statement.{Operation, Branch, operations}
 use Rattle.model.specs.Reading.{operation, branch}
 use Rattle.statements.specs.At.{ended, found, position}
-use Rattle.statements.specs.Flat.{operationOf, fewFields, operationAt, bare, bareAt, bareIs}
+use Rattle.statements.specs.Flat.{operationOf, fewFields, operationAt}
+use Rattle.statements.specs.Front.{bare, bareAt, bareIs}
 use Rattle.statements.specs.declared.Bare.{Bare}
 use Rattle.statements.specs.Ends.{endAt, end-then, position-some, position-none}
 use Rattle.walk.specs.Branches.{countedEnd, branch-ends}

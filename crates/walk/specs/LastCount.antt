@@ -16,7 +16,8 @@ use Rattle.model.specs.Reading.{Reader, operation, branch}
 use Rattle.model.specs.Writing.{operationBytes, branchBytes}
 use Rattle.model.specs.ReadBack.{Writes, writes-operation, writes-branch}
 use Rattle.statements.specs.At.{position}
-use Rattle.statements.specs.Flat.{operationAt, bareAt, bareIs}
+use Rattle.statements.specs.Flat.{operationAt}
+use Rattle.statements.specs.Front.{bareAt, bareIs}
 use Rattle.layout.specs.Stored.{statementOf, statement-of}
 use Rattle.statements.specs.Ends.{endAt, position-is}
 use Rattle.walk.specs.BranchEnds.{fewIn}

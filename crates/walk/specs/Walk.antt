@@ -19,7 +19,8 @@ use Rattle.statements.specs.At.{passed, some-readAt, found, position, suffix-at
 use Rattle.statements.specs.Ends.{endAt, end-of, position-is}
 use Rattle.statements.specs.BranchAt.{BranchAt, branch-at}
 use Rattle.statements.specs.Operations.{suffix-operation}
-use Rattle.statements.specs.Flat.{operationOf, operationIs, readIs, Reads, fewFields, operationAt, bare, bareAt, bareIs}
+use Rattle.statements.specs.Flat.{operationOf, operationIs, readIs, Reads, fewFields, operationAt}
+use Rattle.statements.specs.Front.{bare, bareAt, bareIs}
 use Rattle.statements.specs.declared.Bare.{Bare}
 use Rattle.statements.specs.declared.OperationRead.{OperationRead}
 use Rattle.walk.specs.BodyParts.{BodyParts, body-parts}

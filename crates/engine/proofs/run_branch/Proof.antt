@@ -50,10 +50,10 @@ perform-guard-requires : tie.Need-perform-guard-requires
 perform-guard-requires c κs = search needs
 
 add-run-operations : tie.Need-add-run-operations
-add-run-operations c = search needs
+add-run-operations c = omega arith
 
 shared-slice-read-size : tie.Need-shared-slice-read-size
-shared-slice-read-size c = search needs
+shared-slice-read-size c = omega arith
 
 size-requires : tie.Need-size-requires
 size-requires c κs = search needs
@@ -64,7 +64,7 @@ run-operations-requires c κs =
     (g .perform-guard .ensures .0 .section, subst (λ (k : ℕ). Ahead (bytes g) (from g) k (bindingsOf (g .perform-guard .result .vars))) (sym (c .size .ensures .0)) (goes g .0))
 
 same-length : tie.Need-same-length
-same-length c = search needs
+same-length c = omega arith
 
 returns : tie.Need-returns
 returns c =

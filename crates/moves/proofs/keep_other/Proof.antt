@@ -14,7 +14,7 @@ module _ (c : tie.After-copy-rows) where
   start = some .before .before .before
 
 add-result : tie.Need-add-result
-add-result c = search needs
+add-result c = omega arith
 
 returns : tie.Need-returns
 returns c =
@@ -22,22 +22,22 @@ returns c =
     (omega (arith, s .pre), keeps-in-place (c .if1 .taken))
 
 add-h : tie.Need-add-h
-add-h c = search needs
+add-h c = omega arith
 
 sub-h : tie.Need-sub-h
-sub-h c = search needs
+sub-h c = omega arith
 
 copy-rows-requires : tie.Need-copy-rows-requires
 copy-rows-requires c κs = search needs
 
 add-if2 : tie.Need-add-if2
-add-if2 c = search needs
+add-if2 c = omega arith
 
 same-length : tie.Need-same-length
-same-length c = search needs
+same-length c = omega arith
 
 same-length-2 : tie.Need-same-length-2
-same-length-2 c = search needs
+same-length-2 c = omega arith
 
 returns-2 : tie.Need-returns-2
 returns-2 c =
@@ -48,13 +48,13 @@ put-in-requires : tie.Need-put-in-requires
 put-in-requires c κs = search needs
 
 add-result-2 : tie.Need-add-result-2
-add-result-2 c = search needs
+add-result-2 c = omega arith
 
 same-length-3 : tie.Need-same-length-3
-same-length-3 c = search needs
+same-length-3 c = omega arith
 
 same-length-4 : tie.Need-same-length-4
-same-length-4 c = search needs
+same-length-4 c = omega arith
 
 returns-3 : tie.Need-returns-3
 returns-3 c =

@@ -45,10 +45,10 @@ add-k : tie.Need-add-k Inv-loop μ-loop
 add-k c = let turn = c .before .before .before .before .before .before .before in omega (arith, turn .before .loop .inv .4 .room, turn .loop-test .taken)
 
 add-i : tie.Need-add-i Inv-loop μ-loop
-add-i c = search needs
+add-i c = omega arith
 
 loop-less : tie.Need-loop-less Inv-loop μ-loop
-loop-less c = search needs
+loop-less c = omega arith
 
 loop-again : tie.Need-loop-again Inv-loop μ-loop
 loop-again c =
@@ -76,10 +76,10 @@ keep-other-requires c κs =
     (row turn, h .inv .3, h .inv .4 .room, h .inv .1)
 
 add-i-2 : tie.Need-add-i-2 Inv-loop μ-loop
-add-i-2 c = search needs
+add-i-2 c = omega arith
 
 loop-less-2 : tie.Need-loop-less-2 Inv-loop μ-loop
-loop-less-2 c = search needs
+loop-less-2 c = omega arith
 
 loop-again-2 : tie.Need-loop-again-2 Inv-loop μ-loop
 loop-again-2 c =
@@ -114,7 +114,7 @@ put-in-requires c κs =
     (omega (arith, s .pre .0 .few, holds-length tupleShape _ _ _ (s .pre .0), h .inv .0, h .inv .2, h .inv .4 .room), omega (arith, h .inv .1, h .inv .3, c .before .before .loop-test .left))
 
 same-length : tie.Need-same-length Inv-loop μ-loop
-same-length c = search needs
+same-length c = omega arith
 
 returns : tie.Need-returns Inv-loop μ-loop
 returns c =

@@ -16,7 +16,7 @@ set-space-requires : tie.Need-set-space-requires
 set-space-requires c κs = search needs
 
 same-length : tie.Need-same-length
-same-length c = search needs
+same-length c = omega arith
 
 returns : tie.Need-returns
 returns c =

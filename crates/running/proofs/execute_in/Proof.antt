@@ -30,10 +30,10 @@ tuple-count-requires : tie.Need-tuple-count-requires
 tuple-count-requires c κs = omega arith
 
 sub-execute : tie.Need-sub-execute
-sub-execute c = search needs
+sub-execute c = omega arith
 
 part-execute-start : tie.Need-part-execute-start
-part-execute-start c = search needs
+part-execute-start c = omega arith
 
 part-execute-end : tie.Need-part-execute-end
 part-execute-end c = omega arith
@@ -52,7 +52,7 @@ set-tuple-count-requires c κs =
     (omega arith, att .execute .ensures .holds .few)
 
 same-length : tie.Need-same-length
-same-length c = search needs
+same-length c = omega arith
 
 returns : tie.Need-returns
 returns c =

@@ -3,8 +3,7 @@ use borrow.Author.Needs.{needs}
 use mathlib.Core.Path.{refl}
 use native.Mathlib.Omega.{arith}
 use denote.Ref.{now}
-use Rattle.statements.specs.Flat.{fronts-as}
-use Rattle.statements.specs.Front.{front-short, front-many, front-there}
+use Rattle.statements.specs.Front.{fronts-as, front-short, front-many, front-there}
 use Rattle.statements.proofs.front_on_spaces.Statement.{statement}
 use Rattle.statements.proofs.front_on_spaces.Tie as tie
 
@@ -12,10 +11,10 @@ spaces-width-requires : tie.Need-spaces-width-requires
 spaces-width-requires c κs = search needs
 
 sub-if1 : tie.Need-sub-if1
-sub-if1 c = search needs
+sub-if1 c = omega arith
 
 add-if1 : tie.Need-add-if1
-add-if1 c = search needs
+add-if1 c = omega arith
 
 no-front-requires : tie.Need-no-front-requires
 no-front-requires c κs = search needs
@@ -27,10 +26,10 @@ returns c = let w = c .before .before in
     (front-short (now (s .args .b)) (s .args .at) (s .args .code) (s .pre .0) (s .pre .2) (w .spaces-width .result) (w .spaces-width .ensures .0) (omega (arith, s .pre .1, c .before .if1 .taken)))
 
 add-size : tie.Need-add-size
-add-size c = search needs
+add-size c = omega arith
 
 shared-slice-read-size : tie.Need-shared-slice-read-size
-shared-slice-read-size c = search needs
+shared-slice-read-size c = omega arith
 
 size-requires : tie.Need-size-requires
 size-requires c κs = search needs
@@ -53,10 +52,10 @@ second-space-requires : tie.Need-second-space-requires
 second-space-requires c κs = search needs
 
 add-t9 : tie.Need-add-t9
-add-t9 c = search needs
+add-t9 c = omega arith
 
 add-t10 : tie.Need-add-t10
-add-t10 c = search needs
+add-t10 c = omega arith
 
 returns-3 : tie.Need-returns-3
 returns-3 c = let n = c .before in

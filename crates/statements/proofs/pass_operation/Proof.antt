@@ -3,8 +3,7 @@ use borrow.Author.Needs.{needs}
 use mathlib.Core.Path.{refl, sym, ap, _∙_}
 use denote.Ref.{now}
 use Rattle.statements.specs.At.{found-none}
-use Rattle.statements.specs.Flat.{bareAt, bareIs}
-use Rattle.statements.specs.Front.{no-fields, fields-passed}
+use Rattle.statements.specs.Front.{bareAt, bareIs, no-fields, fields-passed}
 use Rattle.statements.proofs.pass_operation.Statement.{statement}
 use Rattle.statements.proofs.pass_operation.Tie as tie
 

@@ -2,8 +2,7 @@
 use borrow.Author.Needs.{needs}
 use mathlib.Core.Path.{refl, sym}
 use denote.Ref.{now}
-use Rattle.statements.specs.Flat.{fronts-as}
-use Rattle.statements.specs.Front.{front-always}
+use Rattle.statements.specs.Front.{fronts-as, front-always}
 use Rattle.statements.specs.Operations.{operation-past, operation-after, operation-none}
 use Rattle.statements.proofs.read_front.Statement.{statement}
 use Rattle.statements.proofs.read_front.Tie as tie
