@@ -61,7 +61,7 @@ uint64_t replica_layout(void);
 
 #define REPLICA_STATE_BYTES 25312 /* a state buffer has exactly this length */
 #define REPLICA_REPLY_BYTES 3564  /* a reply buffer has at least this length; no call replies more */
-#define REPLICA_STACK_BYTES 26624 /* a call used at most 22,040, measured by painting; the rest is reserve */
+#define REPLICA_STACK_BYTES 28672 /* a call used at most 22,040, measured by painting; the rest is reserve */
 
 /*
  * What replica_take returns where it turned the call back: no byte of any buffer has changed. They are tried in this
