@@ -7,20 +7,24 @@
  * A replica lives in a state buffer that the caller lends. Records arrive numbered 1, 2, 3, .. and are handed in one
  * by one; each gives the replies to be sent. Replicas that took the same records have the same state, byte for byte.
  *
- * The writer makes the body of a statement's record in a buffer that the caller lends, one addition at a time.
+ * The writer makes the body of a statement's record in a buffer that the caller lends, one addition at a time. Of two
+ * templates the library says whether a tuple can exist that both match.
  *
  * For all functions:
  *  - A buffer is a pointer and its length in bytes. It needs no alignment.
- *  - The buffers of one call must not overlap; the number behind a pointer fill must not lie in the body.
+ *  - The buffers of one call must not overlap, but for those of replica_can_meet, which only reads; the number behind a
+ *    pointer fill must not lie in the body.
  *  - A null pointer is allowed where its length is 0, and is then an empty buffer: an empty state is turned back with
  *    REPLICA_NOT_A_STATE, an empty reply buffer with REPLICA_REPLY_SHORT, an empty record with REPLICA_NO_RECORD; in
- *    an empty body nothing can be begun. A pointer fill is never null, and is aligned as a size_t is.
+ *    an empty body nothing can be begun; an empty template is REPLICA_MALFORMED. A pointer fill is never null, and is
+ *    aligned as a size_t is.
  *  - Calls on one state or one body must not run at once. Calls on different ones may.
  *  - A call needs at most REPLICA_STACK_BYTES bytes of stack.
  *  - The floating-point mode (MXCSR) may be any, also that of a program linked with -ffast-math, and another for each
  *    replica: no call reads it, sets it or raises an exception in it. Sums of metres are computed by integers, and round
- *    to nearest. (Tried: harness/tests/metres.rs makes calls in each rounding, with denormals flushed or taken as zero,
- *    with exceptions unmasked, and all at once; harness/tests/instructions.rs finds no instruction in the archive that
+ *    to nearest; metres are compared by their bits, and no subnormal one is taken for zero. (Tried:
+ *    harness/tests/metres.rs and ranges.rs make calls in each rounding, with denormals flushed or taken as zero, with
+ *    exceptions unmasked, and all at once; harness/tests/instructions.rs finds no instruction in the archive that
  *    computes with floats.)
  *
  * Conditions of use. The compiler sees to the first alone; no call can notice that another is broken:
@@ -50,18 +54,19 @@ extern "C" {
 
 /*
  * The number of the bytes and of their meaning. Whatever changes a byte of a record, a reply or a state, or what one
- * means, raises it; 1 is document 01's, 2 has space numbers of two bytes, 3 owes failure tuples that find no room.
- * replica_layout returns the library's own: at a fit-up compare it with the header's, and between cabinets and desks.
- * A desk must not write for cabinets of another number, nor may cabinets whose numbers differ read one stream or copy a
- * state from each other: a record of layout 1 can pass for another one of layout 2, and a crash that layout 2 refuses
- * is done by layout 3.
+ * means, raises it; 1 is document 01's, 2 has space numbers of two bytes, 3 owes failure tuples that find no room, 4
+ * has ranges in templates. replica_layout returns the library's own: at a fit-up compare it with the header's, and
+ * between cabinets and desks. A desk must not write for cabinets of another number, nor may cabinets whose numbers
+ * differ read one stream or copy a state from each other: a record of layout 1 can pass for another one of layout 2, a
+ * crash that layout 2 refuses is done by layout 3, a statement with a range is malformed for layout 3 and not for
+ * layout 4, and a state in which one waits is no state for layout 3.
  */
-#define REPLICA_LAYOUT 3
+#define REPLICA_LAYOUT 4
 uint64_t replica_layout(void);
 
 #define REPLICA_STATE_BYTES 25312 /* a state buffer has exactly this length */
 #define REPLICA_REPLY_BYTES 3564  /* a reply buffer has at least this length; no call replies more */
-#define REPLICA_STACK_BYTES 28672 /* a call used at most 22,040, measured by painting; the rest is reserve */
+#define REPLICA_STACK_BYTES 28672 /* a call used at most 22,592, measured by painting; the rest is reserve */
 
 /*
  * What replica_take returns where it turned the call back: no byte of any buffer has changed. They are tried in this
@@ -101,12 +106,13 @@ uint64_t replica_fresh(uint8_t *state, size_t state_length);
  *         branches (1), branches. A branch is a guard, a count of operations (1), and these. A guard or operation is
  *         a code (1); then space (2) for codes 1 to 5, from (2) and to (2) for 6 and 7; then, but for 0, a count of
  *         fields (1), and these. A field is a form (1), then the parts of the form in the order in which they are
- *         named below: kind (1), variable (1), bits (4)
+ *         named below: kind (1), variable (1), bits (4), highest (4). A range, so, is form, kind, lowest, highest and
+ *         variable, 11 bytes
  *
  * Positions go from 1 to 4,294,967,295; after the last no record is taken.
  *
  * A call that was cut (power lost, task stopped) may leave any bytes, and most of what it leaves passes as a state: a
- * call that wakes a statement was stopped after each of its 26,151 instructions, and at 73 percent of them the buffer
+ * call that wakes a statement was stopped after each of its 26,570 instructions, and at 72 percent of them the buffer
  * would have been taken for a state, though it was neither the one before nor the one after. Do not go on from it.
  * Only two restarts are right: replica_fresh, or a whole copy of a state that another replica held between calls.
  */
@@ -173,7 +179,7 @@ uint64_t replica_take(uint8_t *state, size_t state_length, const uint8_t *record
 
 /*
  * Forms of a field, with the parts that each has and the codes that allow it. Parts that a form does not have are not
- * looked at. A form above 5 is REPLICA_MALFORMED.
+ * looked at. A form above 6 is REPLICA_MALFORMED.
  */
 #define REPLICA_FORM_ACTUAL 0     /* kind, bits: this value; 1 to 7 */
 #define REPLICA_FORM_FORMAL 1     /* kind, variable: any value of the kind, which is bound to the variable; 1 to 4 */
@@ -181,18 +187,26 @@ uint64_t replica_take(uint8_t *state, size_t state_length, const uint8_t *record
 #define REPLICA_FORM_SUM 3        /* variable, kind, bits: the variable's value plus this value; 5 */
 #define REPLICA_FORM_DIFFERENCE 4 /* variable, kind, bits: the variable's value minus this value; 5 */
 #define REPLICA_FORM_ANONYMOUS 5  /* kind: any value of the kind; 1 to 4, 6, 7 */
+#define REPLICA_FORM_RANGE 6      /* kind, bits, highest, variable: a value from bits to highest, both included, which */
+                                  /* is bound to the variable; 1 to 4 */
 
 /*
  * A field. Variables are 0 to 15. The bits are the value's four bytes as a number: (uint32_t)-1 is the whole number -1,
  * 7 the name 7, 0x40400000 the metres 3.0. A variable is bound once in a branch, and used in later operations of that
  * branch; a sum or difference needs it bound with its own kind, which is not name.
+ *
+ * A range is of whole numbers or of metres: bits is its lowest value and highest its highest. Both are legal values of
+ * the kind, and may be equal; a lowest above the highest, and a range of names, are REPLICA_MALFORMED. Whole numbers
+ * are in the order of the signed numbers, metres in that of the numbers and not of their bytes: -2.0 (0xC0000000) lies
+ * below -1.0 (0xBF800000), that below 0.0 (0). No other form looks at highest.
  */
 typedef struct {
     uint8_t form, kind, variable;
     uint32_t bits;
+    uint32_t highest;
 } replica_field;
 
-typedef char replica_field_has_8_bytes[sizeof(replica_field) == 8 ? 1 : -1];
+typedef char replica_field_has_12_bytes[sizeof(replica_field) == 12 ? 1 : -1];
 
 /*
  * Codes of an addition, with what each can be and the parts that it has. Parts that a code does not have and fields
@@ -218,7 +232,7 @@ typedef struct {
     replica_field fields[REPLICA_FIELDS];
 } replica_addition;
 
-typedef char replica_addition_has_64_bytes[sizeof(replica_addition) == 64 ? 1 : -1];
+typedef char replica_addition_has_88_bytes[sizeof(replica_addition) == 88 ? 1 : -1];
 
 /*
  * replica_begin begins a body: host (0 to 15), process, and a first branch with this guard and no operation yet. What
@@ -239,6 +253,38 @@ uint64_t replica_begin(uint8_t *body, size_t body_length, size_t *fill, uint8_t 
                        replica_addition guard);
 uint64_t replica_operation(uint8_t *body, size_t body_length, size_t *fill, replica_addition operation);
 uint64_t replica_branch(uint8_t *body, size_t body_length, size_t *fill, replica_addition guard);
+
+/* ---- Templates */
+
+/*
+ * What replica_can_meet returns, beside REPLICA_MALFORMED: nothing else.
+ */
+#define REPLICA_APART 0     /* no tuple exists that both templates match */
+#define REPLICA_MEET 1      /* one exists */
+#define REPLICA_VARIABLE 19 /* a field is of form 2: what it matches hangs on what is bound before */
+
+/*
+ * Whether two templates can ever meet: whether one tuple of legal values can exist that both match. So a desk can check
+ * before a show whether two drives can ever compete for one tuple. No state is looked at; the space need not be open.
+ *
+ * A template is the bytes of one operation of codes 1 to 4, as they stand in a statement and nothing more: code (1),
+ * space (2), count of fields (1), fields. The writer makes them: after replica_begin with the template as guard they
+ * stand 4 bytes from the start of the body, and are *fill - 5 bytes.
+ *
+ * Tried in this order, each of both templates:
+ *   REPLICA_MALFORMED  a buffer is empty, or its bytes are no such operation, or a byte is missing or left over; the
+ *                      count is not 1 to 6; a form is not 0, 1, 2, 5 or 6; a kind, a value, a variable or a range is
+ *                      not legal; a variable is bound twice in the template. Of a form 2 only the variable is looked
+ *                      at, which is 0 to 15, as if all had been bound before
+ *   REPLICA_VARIABLE   a field is of form 2, also where its variable is bound beside it
+ *   REPLICA_MEET       spaces and counts are the same, and in each place the kinds are the same and some value is
+ *                      matched by both fields; two ranges that have one value in common meet
+ *   REPLICA_APART      else
+ *
+ * The codes play no part: in and rd of the same fields meet. The answer is the same with the two exchanged. Neither
+ * buffer is changed; they may overlap, and may be the same.
+ */
+uint64_t replica_can_meet(const uint8_t *first, size_t first_length, const uint8_t *second, size_t second_length);
 
 #ifdef __cplusplus
 }

@@ -7,6 +7,7 @@ pub mod layout;
 pub mod lent;
 pub mod library;
 pub mod measured;
+pub mod meetings;
 pub mod metres;
 pub mod modes;
 pub mod program;

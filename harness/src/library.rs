@@ -1,6 +1,6 @@
 //! The functions of the library, as `include/replica.h` declares them.
 
-/// A field of an addition.
+/// A field of an addition; `highest` is of a form 6 alone.
 #[repr(C)]
 #[derive(Clone, Copy, Debug, Default, PartialEq, Eq)]
 pub struct Field {
@@ -8,6 +8,7 @@ pub struct Field {
     pub kind: u8,
     pub variable: u8,
     pub bits: u32,
+    pub highest: u32,
 }
 
 /// A guard or an operation.
@@ -43,9 +44,16 @@ extern "C" {
     pub fn replica_operation(body: *mut u8, body_length: usize, fill: *mut usize, operation: Addition)
         -> u64;
     pub fn replica_branch(body: *mut u8, body_length: usize, fill: *mut usize, guard: Addition) -> u64;
+    pub fn replica_can_meet(
+        first: *const u8,
+        first_length: usize,
+        second: *const u8,
+        second_length: usize,
+    ) -> u64;
 }
 
-/// The fresh-state call and the call for a record, of the library or of a stand-in.
+/// The fresh-state call and the call for a record, of the library or of a stand-in. Libraries of every layout have
+/// both; `can_meet` stands apart, so that what is timed on an older one links.
 #[derive(Clone, Copy)]
 pub struct Calls {
     pub fresh: fn(&mut [u8]) -> u64,
@@ -54,6 +62,11 @@ pub struct Calls {
 
 pub const LIBRARY: Calls = Calls { fresh, take };
 pub const REFERENCE: Calls = Calls { fresh: reference::call::fresh, take: reference::call::take };
+
+/// Whether two templates can meet.
+pub fn can_meet(first: &[u8], second: &[u8]) -> u64 {
+    unsafe { replica_can_meet(first.as_ptr(), first.len(), second.as_ptr(), second.len()) }
+}
 
 pub fn fresh(state: &mut [u8]) -> u64 {
     unsafe { replica_fresh(state.as_mut_ptr(), state.len()) }

@@ -1,9 +1,10 @@
-//! Stack used by the fresh-state call, by the rows, by generated calls and by the writer.
+//! Stack used by the fresh-state call, by the rows, by generated calls, by the writer and by pairs of templates.
 
 use crate::layout::STATE_BYTES;
 use crate::rows;
 use crate::stack::Stack;
 use crate::writer::{chain, Desk};
+use reference::generate::meetings::Meetings;
 use reference::generate::Stream;
 
 /// More than any call may use.
@@ -45,7 +46,7 @@ pub fn generated(seed: u64, streams: u64) -> usize {
     most
 }
 
-/// The most that an addition uses, with the 64 bytes by which it is handed in.
+/// The most that an addition uses, with the 88 bytes by which it is handed in, and 8 that keep the stack aligned.
 pub fn writer(seed: u64, chains: u64) -> usize {
     let mut stack = Stack::new(ROOM);
     let mut most = 0;
@@ -66,10 +67,32 @@ pub fn writer(seed: u64, chains: u64) -> usize {
     most
 }
 
+/// Six ranges on either side, which touch: every field is looked at.
+fn longest_templates() -> [Vec<u8>; 2] {
+    let ranges = |ends: [u32; 2]| {
+        let field = |variable: u8| [&[6, 2], &ends.map(u32::to_be_bytes).concat()[..], &[variable]].concat();
+        [&[1, 0, 0, 6][..], &(10..16).flat_map(field).collect::<Vec<u8>>()].concat()
+    };
+    [ranges([0xC000_0000, 0xBF80_0000]), ranges([0xBF80_0000, 0x3F80_0000])]
+}
+
+/// The most that asking about two templates uses.
+pub fn meetings(seed: u64, pairs: u64) -> usize {
+    let (mut stack, mut generated) = (Stack::new(ROOM), Meetings::new(seed));
+    let [first, second] = longest_templates();
+    let mut most = stack.used(|stack| assert_eq!(stack.can_meet(&first, &second), 1));
+    for _ in 0..pairs {
+        let one = generated.make();
+        most = most.max(stack.used(|stack| assert_eq!(stack.can_meet(&one.first, &one.second), one.answer())));
+    }
+    most
+}
+
 /// The most of all of them.
 pub fn most(seed: u64, streams: u64) -> usize {
     let rows = rows().into_iter().map(|(_, used)| used).max().unwrap_or(0);
-    fresh().max(rows).max(generated(seed, streams)).max(writer(seed, streams / 10))
+    let written = writer(seed, streams / 10);
+    fresh().max(rows).max(generated(seed, streams)).max(written).max(meetings(seed, streams))
 }
 
 /// Makes the same calls on a stack of exactly these bytes, below which no byte may be touched.
@@ -81,6 +104,8 @@ pub fn run_within(bytes: usize) {
             stack.take(&mut state.clone(), &row.record, &mut vec![0; row.reply_length]);
         }
     }
+    let [first, second] = longest_templates();
+    assert_eq!(stack.can_meet(&first, &second), 1);
     let mut desk = Desk::new(|body: &mut [u8], fill: &mut usize, call, addition| {
         stack.write(body, fill, call, addition)
     });

@@ -56,6 +56,8 @@ impl Display for Mode {
 
 /// `replica_take`, or a stand-in.
 pub type Take = unsafe extern "C" fn(*mut u8, usize, *const u8, usize, *mut u8, usize) -> u64;
+/// `replica_can_meet`, or a stand-in.
+pub type CanMeet = unsafe extern "C" fn(*const u8, usize, *const u8, usize) -> u64;
 
 /// MXCSR before a block, in it, and at its end.
 #[repr(C)]
@@ -68,23 +70,35 @@ struct Words {
 
 /// Makes a call in a mode. Hands back what the call returned, and the word that it left in MXCSR.
 pub fn call(mode: Mode, take: Take, state: &mut [u8], record: &[u8], reply: &mut [u8]) -> (u64, u32) {
+    let (to, from, into) = (state.as_mut_ptr() as usize, record.as_ptr() as usize, reply.as_mut_ptr() as usize);
+    within(mode, take as *const (), [to, state.len(), from, record.len(), into, reply.len()])
+}
+
+/// Asks in a mode whether two templates can meet.
+pub fn ask(mode: Mode, can_meet: CanMeet, first: &[u8], second: &[u8]) -> (u64, u32) {
+    let buffers = [first.as_ptr() as usize, first.len(), second.as_ptr() as usize, second.len()];
+    within(mode, can_meet as *const (), [buffers[0], buffers[1], buffers[2], buffers[3], 0, 0])
+}
+
+/// Calls a function of at most six words in a mode.
+fn within(mode: Mode, function: *const (), values: [usize; 6]) -> (u64, u32) {
     let mut words = Words { within: mode.word, ..Words::default() };
     let returned: u64;
     unsafe {
         asm!(
             "stmxcsr [r12]",
             "ldmxcsr [r12 + 4]",
-            "call {take}",
+            "call {function}",
             "stmxcsr [r12 + 8]",
             "ldmxcsr [r12]",
-            take = in(reg) take,
+            function = in(reg) function,
             in("r12") &mut words,
-            in("rdi") state.as_mut_ptr(),
-            in("rsi") state.len(),
-            in("rdx") record.as_ptr(),
-            in("rcx") record.len(),
-            in("r8") reply.as_mut_ptr(),
-            in("r9") reply.len(),
+            in("rdi") values[0],
+            in("rsi") values[1],
+            in("rdx") values[2],
+            in("rcx") values[3],
+            in("r8") values[4],
+            in("r9") values[5],
             lateout("rax") returned,
             clobber_abi("C"),
         );

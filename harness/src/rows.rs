@@ -1,11 +1,11 @@
 //! Calls that go deep or take long: the rows of the benchmark, on which the stack is measured too.
 
 use crate::layout::{REPLY_BYTES, STATE_BYTES};
-use crate::states::{self, any, branch, given, naming, operation, put, scattered, statement, LAST};
+use crate::states::{self, any, branch, given, naming, operation, put, range, scattered, statement, LAST, NEAR};
 use reference::generate::join;
 use reference::generate::statements::wide;
 use reference::run::{Run, Space, Tuple, Waiting};
-use reference::statement::{self, Branch, Field, Operation, IN, MOVE, OUT, RD, TRUE};
+use reference::statement::{self, Branch, Field, Operation, IN, INP, MOVE, OUT, RD, TRUE};
 use reference::value::{metres, name, whole};
 
 /// A record to be taken by each of some states in turn.
@@ -179,6 +179,27 @@ fn debts() -> Vec<Row> {
     rows.into_iter().map(|row| Row { since: 3, ..row }).collect()
 }
 
+/// Searches by ranges, which libraries before layout 4 call malformed.
+fn ranges() -> Vec<Row> {
+    let near = |code| {
+        let fields = vec![Field::Given(name(7)), range(metres(NEAR[0]), metres(NEAR[1]), 0)];
+        vec![branch(operation(code, &[0], fields), vec![])]
+    };
+    let six = (0..6).map(|variable| range(whole(511), whole(i32::MAX), variable)).collect();
+    let six = vec![branch(operation(IN, &[0], six), vec![])];
+    let takes = operation(IN, &[0], [1, 0, 1, 0, 0, 0].map(any).to_vec());
+    let takes = vec![branch(takes, vec![out(&states::link(99))])];
+    let outs = vec![out(&states::at(0x4060_0000)); 8];
+    let rows = vec![
+        row("512 tuples, in of a range, the newest alone", &[states::positions(0x4060_0000)], near(IN)),
+        row("512 tuples, inp of a range that has none", &[states::positions(0x4066_6667)], near(INP)),
+        row("512 tuples of 6, in of the newest by 6 ranges", &[states::six_fields()], six),
+        row("512 tuples, 31 x 4 guards with a range, out", &[states::missed_ranges()], takes),
+        row("outs that wake 8 of 32 by a range", &[states::near_crowd()], always(outs)),
+    ];
+    rows.into_iter().map(|row| Row { since: 4, ..row }).collect()
+}
+
 /// The check of the states of these rows takes at most so many units of the benchmark, in the least sample: 512 tuples
 /// of one shape in one space, and spread over 32.
 pub const LIMITS: [(&str, f64); 2] =
@@ -186,7 +207,8 @@ pub const LIMITS: [(&str, f64); 2] =
 
 /// Records that are taken.
 pub fn taken() -> Vec<Row> {
-    let rows = [near_empty(), sums(), many_tuples(), many_guards(), moves_and_wakes(), many_spaces(), debts()];
+    let rows =
+        [near_empty(), sums(), many_tuples(), many_guards(), moves_and_wakes(), many_spaces(), debts(), ranges()];
     rows.into_iter().flatten().collect()
 }
 

@@ -2,7 +2,7 @@
 //! that nobody may touch.
 
 use crate::library::{
-    replica_begin, replica_branch, replica_fresh, replica_operation, replica_take, Addition,
+    replica_begin, replica_branch, replica_can_meet, replica_fresh, replica_operation, replica_take, Addition,
 };
 use crate::writer::Call;
 use std::arch::asm;
@@ -18,6 +18,8 @@ extern "C" {
 const READ_WRITE: c_int = 3;
 const PRIVATE_ANONYMOUS: c_int = 0x22;
 const PAGE: usize = 4096;
+/// Of the stack pointer at a call.
+const ALIGNMENT: usize = 16;
 /// Two colours that no byte has both of.
 const COLOURS: [u8; 2] = [0xA5, 0x5A];
 
@@ -48,7 +50,7 @@ impl Stack {
         let mut top = unsafe { self.map.add(PAGE + self.bytes) };
         if let Some(addition) = addition {
             unsafe {
-                top = top.sub(size_of::<Addition>());
+                top = top.sub(size_of::<Addition>().next_multiple_of(ALIGNMENT));
                 top.cast::<Addition>().write(addition);
             }
         }
@@ -90,6 +92,12 @@ impl Stack {
     pub fn fresh(&mut self, state: &mut [u8]) -> u64 {
         let words = [state.as_mut_ptr() as usize, state.len(), 0, 0, 0, 0];
         self.call(replica_fresh as *const () as usize, words, None)
+    }
+
+    pub fn can_meet(&mut self, first: &[u8], second: &[u8]) -> u64 {
+        let words =
+            [first.as_ptr() as usize, first.len(), second.as_ptr() as usize, second.len(), 0, 0];
+        self.call(replica_can_meet as *const () as usize, words, None)
     }
 
     pub fn write(&mut self, body: &mut [u8], fill: &mut usize, call: Call, addition: Addition) -> u64 {

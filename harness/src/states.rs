@@ -1,5 +1,6 @@
 //! States built by hand, to be damaged, to measure the stack and to time calls on.
 
+use reference::generate::ranges;
 use reference::generate::rng::Rng;
 use reference::generate::statements::{signal, wide};
 use reference::layout::{encode, is_state};
@@ -19,6 +20,11 @@ pub fn given(values: &[Value]) -> Vec<Field> {
 
 pub fn any(kind: u8) -> Field {
     Field::Any { kind }
+}
+
+/// From the one value to the other, into this variable.
+pub fn range(lowest: Value, highest: Value, variable: u8) -> Field {
+    ranges::field((lowest, highest), variable)
 }
 
 pub fn branch(guard: Operation, body: Vec<Operation>) -> Branch {
@@ -80,6 +86,20 @@ fn longest(host: u8, process: u16, space: u16) -> Statement {
     longest
 }
 
+/// in and rd of one value in a range, of metres from -4 to -3 and of whole numbers around 0; there is no tuple of one
+/// value. What they bind is put out and searched for.
+fn ranges_alone(host: u8, process: u16, spaces: [u16; 2]) -> Statement {
+    let near = range(metres(0xC080_0000), metres(0xC040_0000), 0);
+    let around = range(whole(-256), whole(256), 15);
+    let puts = vec![Field::Use { variable: 0 }, Field::Plus { variable: 0, value: metres(0x3F80_0000) }];
+    let again = vec![Field::Use { variable: 15 }, range(metres(1), metres(0x7F7F_FFFF), 1)];
+    let branches = vec![
+        branch(operation(IN, &[spaces[0]], vec![near]), vec![operation(OUT, &[spaces[1]], puts)]),
+        branch(operation(RD, &[spaces[1]], vec![around]), vec![operation(RD, &[spaces[0]], again)]),
+    ];
+    statement(host, process, branches)
+}
+
 fn wait(run: &mut Run, position: u32, statement: Statement) {
     run.waiting.push(Waiting { position, statement });
 }
@@ -102,6 +122,7 @@ pub fn small() -> Run {
     }
     wait(&mut run, 3, signal(0, 40));
     wait(&mut run, 700, four_guards(2, 5, [0, 256]));
+    wait(&mut run, 997, ranges_alone(15, 43, [0, 2]));
     wait(&mut run, 998, longest(15, 41, 2));
     wait(&mut run, 999, wide(2, 42, false));
     wait(&mut run, 1000, four_guards(0, 65_535, [2_056, 2]));
@@ -132,6 +153,7 @@ pub fn full() -> Run {
         let host = at as u8 % 16;
         let statement = match at % 4 {
             0 => longest(host, space, space),
+            1 => ranges_alone(host, space, [space, 0]),
             _ => four_guards(host, space, [space, 0]),
         };
         wait(&mut run, 1 + at as u32 * 100_000_000, statement);
@@ -240,6 +262,61 @@ pub fn crowd(all_variables: bool) -> Run {
     for number in 0..32 {
         let process = 100 + number as u16;
         wait(&mut run, 1 + number, if all_variables { wide(2, process, false) } else { signal(2, process) });
+    }
+    run
+}
+
+// ---- States that ranges search ----
+
+/// 3.4 and 3.6 metres.
+pub const NEAR: [u32; 2] = [0x4059_999A, 0x4066_6666];
+
+/// (name 7, these metres).
+pub fn at(bits: u32) -> [Value; 2] {
+    [name(7), metres(bits)]
+}
+
+/// 512 tuples (name 7, metres), now below 3.4 and now above 3.6, of both signs; but the newest has this.
+pub fn positions(newest: u32) -> Run {
+    let mut run = near_empty();
+    let bits = |number: u32| match number % 4 {
+        0 => NEAR[0] - 1 - number,
+        1 => NEAR[1] + 1 + number,
+        2 => 0xC060_0000 + number,
+        _ => 0x0000_0001 + number,
+    };
+    run.tuples = (0..511).map(|number| tuple(0, &at(bits(number)))).collect();
+    run.tuples.push(tuple(0, &at(newest)));
+    run
+}
+
+/// 512 links, and 31 statements of 4 guards. A guard gives five values of the links, and a range that begins above the
+/// sixth of all of them.
+pub fn missed_ranges() -> Run {
+    let mut run = near_empty();
+    run.last = 1000;
+    run.tuples = (0..512).map(|number| tuple(0, &link(1000 + number))).collect();
+    for number in 0..31 {
+        let guard = |at: i32| {
+            let mut fields = given(&link(0)[..5]);
+            fields.push(range(whole(100_000 + 4 * number + at), whole(i32::MAX), 0));
+            branch(operation(IN, &[0], fields), vec![])
+        };
+        let branches = (0..4).map(guard).collect();
+        wait(&mut run, 1 + number as u32, statement(2, 100 + number as u16, branches));
+    }
+    run
+}
+
+/// 32 statements that wait for (name 7, 3.4 to 3.6 metres), and put that back as (name 7, metres) 10 metres up.
+pub fn near_crowd() -> Run {
+    let mut run = near_empty();
+    run.last = 1000;
+    let near = vec![Field::Given(name(7)), range(metres(NEAR[0]), metres(NEAR[1]), 0)];
+    let up = vec![Field::Given(name(7)), Field::Plus { variable: 0, value: metres(0x4120_0000) }];
+    for number in 0..32 {
+        let branches = vec![branch(operation(IN, &[0], near.clone()), vec![operation(OUT, &[0], up.clone())])];
+        wait(&mut run, 1 + number, statement(2, 100 + number as u16, branches));
     }
     run
 }

@@ -56,6 +56,7 @@ fn handed(addition: &Addition) -> second::Addition {
         kind: field.kind,
         variable: field.variable,
         value: field.bits.to_be_bytes(),
+        highest: field.highest.to_be_bytes(),
     };
     let fields = fields(addition).into_iter().map(part).collect();
     second::Addition { code: addition.code, spaces: spaces(addition), fields }
@@ -81,6 +82,7 @@ fn field_bytes(field: &Field) -> Vec<u8> {
         1 => vec![kind, variable],
         2 => vec![variable],
         5 => vec![kind],
+        6 => [&[kind], &bits[..], &field.highest.to_be_bytes(), &[variable]].concat(),
         _ => [&[variable, kind], &bits[..]].concat(),
     };
     [vec![field.form], parts].concat()
@@ -132,6 +134,8 @@ pub struct Counts {
     pub answers: [[u64; 3]; 3],
     /// Records of filled bytes, and of refused additions composed by hand.
     pub records: [u64; 2],
+    /// Ranges in the additions that were done.
+    pub ranges: u64,
     /// The most bytes of a body, branches, and operations of a branch.
     pub most: [usize; 3],
 }
@@ -197,6 +201,9 @@ impl<W: Write> Desk<W> {
         }
         self.buffer.holds(&after).map_err(|fault| format!("the body {fault}"))?;
         self.counts.note(call, answer);
+        if answer == 0 {
+            self.counts.ranges += fields(addition).iter().filter(|field| field.form == 6).count() as u64;
+        }
         Ok((answer, wanted))
     }
 
@@ -277,12 +284,25 @@ const BITS: [u32; 12] = [
     0xFF7F_FFFF,
 ];
 
+/// Legal metres, of both signs; the greatest, and subnormal ones.
+const METRES: [u32; 8] = [
+    0,
+    1,
+    0x8000_0001,
+    0x807F_FFFF,
+    0x3F80_0000,
+    0xC000_0000,
+    0x7F7F_FFFF,
+    0xFF7F_FFFF,
+];
+
 fn any_field(rng: &mut Rng) -> Field {
     Field {
         form: rng.below(8) as u8,
         kind: rng.below(4) as u8,
         variable: rng.below(18) as u8,
         bits: rng.pick(&BITS),
+        highest: rng.pick(&BITS),
     }
 }
 
@@ -303,16 +323,30 @@ type Bound = Vec<(u8, u8)>;
 fn legal_bits(rng: &mut Rng, kind: u8) -> u32 {
     match kind {
         1 => rng.pick(&[0, 7, 65_535]),
-        2 => rng.pick(&[0, 0x3F80_0000, 0xFF7F_FFFF]),
+        2 => rng.pick(&METRES),
         _ => rng.pick(&BITS),
     }
+}
+
+/// Whether the whole number, or the metres, of the one bits are at most those of the other.
+fn at_most(kind: u8, one: u32, other: u32) -> bool {
+    match kind {
+        2 => f32::from_bits(one) <= f32::from_bits(other),
+        _ => one as i32 <= other as i32,
+    }
+}
+
+/// The ends of a legal range of the kind, now and then equal.
+fn legal_ends(rng: &mut Rng, kind: u8) -> (u32, u32) {
+    let (one, other) = (legal_bits(rng, kind), legal_bits(rng, kind));
+    if at_most(kind, one, other) { (one, other) } else { (other, one) }
 }
 
 /// A field that an operation of this code may have; parts that it does not have are of any kind.
 fn legal_field(rng: &mut Rng, code: u8, bound: &Bound, binds: &mut Bound) -> Field {
     let mut field = any_field(rng);
     let forms: &[u8] = match code {
-        1..=4 => &[0, 1, 2, 5],
+        1..=4 => &[0, 1, 2, 5, 6],
         5 => &[0, 2, 3, 4],
         _ => &[0, 2, 5],
     };
@@ -324,6 +358,11 @@ fn legal_field(rng: &mut Rng, code: u8, bound: &Bound, binds: &mut Bound) -> Fie
     match field.form {
         1 if !frees.is_empty() => {
             (field.kind, field.variable) = (rng.below(3) as u8, rng.pick(&frees));
+            binds.push((field.variable, field.kind));
+        }
+        6 if !frees.is_empty() => {
+            (field.kind, field.variable) = (rng.pick(&[0, 2]), rng.pick(&frees));
+            (field.bits, field.highest) = legal_ends(rng, field.kind);
             binds.push((field.variable, field.kind));
         }
         2 if !usable.is_empty() => field.variable = rng.pick(&usable).0,
@@ -362,7 +401,7 @@ fn legal_addition(rng: &mut Rng, guard: bool, wide: bool, bound: &Bound) -> (Add
 fn mutated(rng: &mut Rng, mut addition: Addition) -> Addition {
     let other = any_addition(rng);
     let at = rng.below(6);
-    match rng.below(8) {
+    match rng.below(9) {
         0 => addition.code = other.code,
         1 => addition.from = other.from,
         2 => addition.to = other.to,
@@ -370,6 +409,7 @@ fn mutated(rng: &mut Rng, mut addition: Addition) -> Addition {
         4 => addition.fields[at].form = other.fields[at].form,
         5 => addition.fields[at].kind = other.fields[at].kind,
         6 => addition.fields[at].variable = other.fields[at].variable,
+        7 => addition.fields[at].highest = other.fields[at].highest,
         _ => addition.fields[at].bits = other.fields[at].bits,
     }
     addition

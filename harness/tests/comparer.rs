@@ -7,8 +7,11 @@ use harness::library::{Calls, REFERENCE};
 use harness::streams;
 use reference::call::{split, take};
 use reference::generate::coverage::Coverage;
+use reference::generate::{join, ranges};
 use reference::layout::{encode, read_state, reply_bytes};
 use reference::run::{failure, Mark, Reply, Run};
+use reference::statement;
+use reference::value::Value;
 
 type Take = fn(&mut [u8], &[u8], &mut [u8]) -> u64;
 
@@ -255,6 +258,7 @@ fn debts_not_laid_after_a_woken_statement() {
     );
 }
 
+/// There are fewer tuples than should be, by either byte of their count, 14 and 15.
 #[test]
 fn debts_laid_for_those_who_wait_alone() {
     noticed_by_streams(
@@ -264,7 +268,7 @@ fn debts_laid_for_those_who_wait_alone() {
                 laying(run, mark, body, lay, lay)
             })
         },
-        "the state byte 14 is 01 and not 02",
+        "the state byte 1",
     );
 }
 
@@ -334,5 +338,102 @@ fn masks_that_are_not_looked_at() {
             take(state, record, reply)
         },
         " and not 1",
+    );
+}
+
+// ---- Ranges ----
+
+/// The record of a statement with the ends of each range made others; None where it has no range.
+fn with_ends(record: &[u8], change: fn((Value, Value)) -> (Value, Value)) -> Option<Vec<u8>> {
+    let (_, position, body) = split(record).filter(|(mark, ..)| *mark == Mark::Ag)?;
+    let (mut statement, mut changed) = (statement::parts(body)?, false);
+    for branch in &mut statement.branches {
+        let operations = std::iter::once(&mut branch.guard).chain(&mut branch.body);
+        for field in operations.flat_map(|operation| &mut operation.fields) {
+            if let (Some(ends), Some((variable, _))) = (ranges::ends(field), field.binding()) {
+                *field = ranges::field(change(ends), variable);
+                changed = true;
+            }
+        }
+    }
+    changed.then(|| join(*b"AG", position, &statement::write(&statement)))
+}
+
+/// The call with other ends where the first reply has this outcome.
+fn with_other_ends(
+    state: &mut [u8],
+    record: &[u8],
+    reply: &mut [u8],
+    outcome: u8,
+    change: fn((Value, Value)) -> (Value, Value),
+) -> u64 {
+    let (mut after, mut replies) = (state.to_vec(), reply.to_vec());
+    let returned = take(&mut after, record, &mut replies);
+    match with_ends(record, change) {
+        Some(other) if is_taken(returned) && returned > 0 && replies[9] == outcome => take(state, &other, reply),
+        _ => take(state, record, reply),
+    }
+}
+
+#[test]
+fn a_range_without_its_highest_value() {
+    noticed_by_streams(
+        |state, record, reply| {
+            with_other_ends(state, record, reply, 0, |(lowest, highest)| {
+                (lowest, ranges::below(&highest).filter(|below| lowest.is_at_most(below)).unwrap_or(highest))
+            })
+        },
+        " and not ",
+    );
+}
+
+#[test]
+fn a_range_without_its_lowest_value() {
+    noticed_by_streams(
+        |state, record, reply| {
+            with_other_ends(state, record, reply, 0, |(lowest, highest)| {
+                (ranges::above(&lowest).filter(|above| above.is_at_most(&highest)).unwrap_or(lowest), highest)
+            })
+        },
+        " and not ",
+    );
+}
+
+#[test]
+fn a_range_upside_down_taken() {
+    noticed_by_streams(
+        |state, record, reply| {
+            with_other_ends(state, record, reply, 6, |(lowest, highest)| {
+                if lowest.is_at_most(&highest) { (lowest, highest) } else { (highest, lowest) }
+            })
+        },
+        " and not ",
+    );
+}
+
+#[test]
+fn a_range_that_finds_every_value_of_its_kind() {
+    noticed_by_streams(
+        |state, record, reply| with_other_ends(state, record, reply, 18, |(lowest, _)| ranges::limits(lowest.kind)),
+        " and not ",
+    );
+}
+
+/// The reply shows an end in the place of what was found.
+#[test]
+fn a_range_that_binds_its_lowest_value() {
+    noticed_by_streams(
+        |state, record, reply| {
+            let returned = take(state, record, reply);
+            let guard = split(record).and_then(|(_, _, body)| statement::read(body));
+            let field = guard.and_then(|statement| statement.branches.into_iter().next()?.guard.fields.pop());
+            if let (Some((lowest, _)), 18..) = (field.and_then(|field| ranges::ends(&field)), returned) {
+                if is_taken(returned) && reply[10..12] == [1, 1] {
+                    reply[14..18].copy_from_slice(&lowest.bytes);
+                }
+            }
+            returned
+        },
+        "the reply buffer byte 1",
     );
 }

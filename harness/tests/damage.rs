@@ -315,6 +315,10 @@ fn records(run: &Run) -> Vec<Vec<u8>> {
         05 0000 02 03 00 00 00000001 02 01  01 0000 01 02 00";
     let high_spaces = "02 0000 01  04 0102 05 05 00 05 01 05 02 05 00 05 01  03
         05 0102 01 00 01 00000007  06 0102 0002 00  07 0002 0102 01 05 01";
+    // the first guard misses; metres from -4 to -3 with a whole number from -9 to -1, then any name with metres to 0.5
+    let ranges = "02 0001 02  02 0000 02 06 02 40000000 40400000 0F 05 00  00
+        01 0000 02 06 02 C0800000 C0400000 00 06 00 FFFFFFF7 FFFFFFFF 01  02
+        03 0000 02 01 01 02 06 02 C0800000 3F000000 03  05 0000 03 02 00 03 01 00 00000001 04 03 02 3F800000";
     let bodies = [
         ("RV", "01"),
         ("CR", "02"),
@@ -325,6 +329,7 @@ fn records(run: &Run) -> Vec<Vec<u8>> {
         ("AG", all_guards),
         ("AG", variables),
         ("AG", high_spaces),
+        ("AG", ranges),
     ];
     bodies.iter().map(|(mark, body)| record(mark, run.last + 1, body)).collect()
 }

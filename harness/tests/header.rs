@@ -20,7 +20,7 @@ fn expect_all(start: &str, names: &[(&str, usize)]) {
 
 #[test]
 fn the_layout_is_the_librarys() {
-    assert_eq!((defined("REPLICA_LAYOUT"), unsafe { replica_layout() }), (3, 3));
+    assert_eq!((defined("REPLICA_LAYOUT"), unsafe { replica_layout() }), (4, 4));
 }
 
 #[test]
@@ -38,9 +38,14 @@ fn refusals() {
 }
 
 #[test]
+fn answers_on_templates() {
+    expect("", &[("APART", 0), ("MEET", 1), ("MALFORMED", 6), ("VARIABLE", 19)]);
+}
+
+#[test]
 fn codes_forms_and_kinds() {
     let codes = ["TRUE", "IN", "INP", "RD", "RDP", "OUT", "MOVE", "COPY"];
-    let forms = ["ACTUAL", "FORMAL", "REFERENCE", "SUM", "DIFFERENCE", "ANONYMOUS"];
+    let forms = ["ACTUAL", "FORMAL", "REFERENCE", "SUM", "DIFFERENCE", "ANONYMOUS", "RANGE"];
     let numbered = |names: &[&'static str]| names.iter().copied().zip(0..).collect::<Vec<_>>();
     expect_all("CODE_", &numbered(&codes));
     expect_all("FORM_", &numbered(&forms));

@@ -105,7 +105,7 @@ fn assembled(name: &str, lines: &[&str]) -> Seen {
 fn the_archive_computes_with_no_floats() {
     let disassembly = disassembled(Path::new(env!("REPLICA_ARCHIVE")));
     let seen = look(&disassembly.unwrap_or_else(|fault| panic!("{fault}")));
-    for function in ["layout", "fresh", "take", "begin", "operation", "branch"] {
+    for function in ["layout", "fresh", "take", "begin", "operation", "branch", "can_meet"] {
         let name = format!("replica_{function}");
         assert!(seen.functions.contains(&name), "{name} is not in the archive: {:?}", seen.functions);
     }

@@ -148,6 +148,29 @@ fn a_stream_that_owes() {
     assert_eq!(printed(&stream, &Pieces::whole()), lines);
 }
 
+/// A drive waits for 3.4 to 3.6 metres, and is woken by the second position; then a range that is malformed, one that
+/// nothing lies in, and one of two guards.
+#[test]
+fn a_stream_with_ranges() {
+    let position = |metres: &str| format!("02 0006 01 00 01 05 0000 02 00 01 00000007 00 02 {metres}");
+    let near = |code: &str, ends: &str| format!("{code} 0000 02 00 01 00000007 06 02 {ends} 03");
+    let bodies = [
+        ("RV", "02".to_string()),
+        ("AG", format!("02 0005 01 {} 01 05 0000 01 02 03", near("01", "4059999A 40666666"))),
+        ("AG", position("40680000")),
+        ("AG", position("40600000")),
+        ("AG", format!("02 0005 01 {} 00", near("01", "40666666 4059999A"))),
+        ("AG", format!("02 0005 01 {} 00", near("04", "C0680000 00000000"))),
+        ("AG", format!("02 0005 02 {} 00 {} 00", near("02", "00000000 4067FFFF"), near("04", "40680000 7F7FFFFF"))),
+    ];
+    let records = bodies.iter().zip(1..).map(|((mark, body), position)| record(mark, position, body));
+    let stream: Vec<u8> = records.flatten().collect();
+    let lines = "\
+        1 2 0 0 0 0:0:00000001\n3 2 6 0 1\n4 2 6 0 1\n2 2 5 0 1 3:2:40600000\n\
+        5 255 65535 6 0\n6 2 5 18 0\n7 2 5 0 2 3:2:40680000\n";
+    assert_eq!(printed(&stream, &Pieces::whole()), lines);
+}
+
 /// Records of 65,543 bytes, whole, in pieces, and cut.
 #[test]
 fn the_longest_records() {

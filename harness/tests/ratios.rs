@@ -213,13 +213,23 @@ fn the_row_that_wakes_from_the_youngest() {
     assert_eq!((tuple_count(&state), state[WAITING_COUNT_AT]), (512, 0));
 }
 
-/// They come last, so that the rows of an older library are the first ones. Each with the bytes of its replies, the
-/// tuples that it leaves, and the pairs owed before and after it.
+/// The rows of a layout; those of a later one come later, so that the rows of an older library are the first ones.
+fn rows_since(layout: u64) -> Vec<rows::Row> {
+    let rows = rows::taken();
+    assert!(rows.is_sorted_by_key(|row| row.since));
+    rows.into_iter().filter(|row| row.since == layout).collect()
+}
+
+#[test]
+fn rows_by_layouts() {
+    assert_eq!([2, 3, 4].map(|layout| rows_since(layout).len()), [21, 6, 5]);
+    assert_eq!(rows::taken().len(), 32);
+}
+
+/// Each with the bytes of its replies, the tuples that it leaves, and the pairs owed before and after it.
 #[test]
 fn rows_of_debts() {
-    let rows = rows::taken();
-    let (older, debts) = rows.split_at(rows.len() - 6);
-    assert!(older.iter().all(|row| row.since == 2) && debts.iter().all(|row| row.since == 3));
+    let debts = rows_since(3);
     let pairs = |state: &[u8]| owed(state).iter().map(|mask| mask.count_ones()).sum::<u32>();
     let expected = [
         ("512 tuples, 8 monitors, crash", 18, 512, 0, 8),
@@ -236,6 +246,33 @@ fn rows_of_debts() {
         assert_eq!((reply[9], tuple_count(&state), pairs(&state)), (0, tuples, after), "{name}");
         assert_eq!(state[WAITING_COUNT_AT], 0, "{name}");
     }
+}
+
+/// Each with the bytes of its replies and the outcome of the first, and the tuples and statements that it leaves.
+#[test]
+fn rows_of_ranges() {
+    let expected = [
+        ("512 tuples, in of a range, the newest alone", 18, 0, 511, 0),
+        ("512 tuples, inp of a range that has none", 12, 18, 512, 0),
+        ("512 tuples of 6, in of the newest by 6 ranges", 12 + 6 * 6, 0, 511, 0),
+        ("512 tuples, 31 x 4 guards with a range, out", 12, 0, 512, 31),
+        ("outs that wake 8 of 32 by a range", 12 + 8 * 18, 0, 8, 24),
+    ];
+    let rows = rows_since(4);
+    assert_eq!(rows.len(), expected.len());
+    for (row, (name, count, outcome, tuples, waiting)) in rows.iter().zip(expected) {
+        let (mut state, mut reply) = (row.states[0].clone(), vec![0; row.reply_length]);
+        assert_eq!((LIBRARY.take)(&mut state, &row.record, &mut reply), count, "{name}");
+        assert_eq!((row.name, reply[9], tuple_count(&state)), (name, outcome, tuples));
+        assert_eq!(state[WAITING_COUNT_AT], waiting, "{name}");
+    }
+    // the newest lies inside, and each of the others outside
+    let [lowest, highest] = states::NEAR.map(f32::from_bits);
+    let lies = |at: usize| {
+        let bytes = rows[0].states[0][tuple(at)][VALUES_AT + VALUE_BYTES + 1..][..4].try_into();
+        (lowest..=highest).contains(&f32::from_be_bytes(bytes.unwrap_or_default()))
+    };
+    assert_eq!((0..512).filter(|at| lies(*at)).collect::<Vec<usize>>(), [511]);
 }
 
 /// What the program says of two files of these bytes.

@@ -24,8 +24,10 @@ fn random_additions() {
         println!("{name:9}  0: {done:6}  6: {malformed:6}  2: {short:6}");
     }
     println!("records of filled bytes {}, of refused additions {}", counts.records[0], counts.records[1]);
+    println!("ranges {}", counts.ranges);
     assert_eq!(counts.most, [250, 4, 8], "bytes, branches, operations");
     assert!(counts.sum() >= 200_000, "{} additions", counts.sum());
+    assert!(counts.ranges >= 20_000, "{} ranges", counts.ranges);
     assert!(counts.answers.iter().flatten().chain(&counts.records).all(|count| *count > 0), "{counts:?}");
 }
 
@@ -33,8 +35,13 @@ fn random_additions() {
 
 type Write = fn(&mut [u8], &mut usize, Call, Addition) -> u64;
 
+/// A field whose highest value nobody may look at.
 fn field(form: u8, kind: u8, variable: u8, bits: u32) -> Field {
-    Field { form, kind, variable, bits }
+    Field { form, kind, variable, bits, highest: 0x7FC0_0000 }
+}
+
+fn range(kind: u8, lowest: u32, highest: u32, variable: u8) -> Field {
+    Field { form: 6, kind, variable, bits: lowest, highest }
 }
 
 fn addition(code: u8, from: u16, to: u16, fields: &[Field]) -> Addition {
@@ -90,11 +97,12 @@ impl Page {
 #[test]
 fn the_layout_of_an_addition() {
     let field = [offset_of!(Field, form), offset_of!(Field, kind), offset_of!(Field, variable)];
-    assert_eq!((field, offset_of!(Field, bits), size_of::<Field>()), ([0, 1, 2], 4, 8));
+    let values = [offset_of!(Field, bits), offset_of!(Field, highest)];
+    assert_eq!((field, values, size_of::<Field>()), ([0, 1, 2], [4, 8], 12));
     let spaces = [offset_of!(Addition, from), offset_of!(Addition, to)];
     assert_eq!((offset_of!(Addition, code), spaces), (0, [2, 4]));
     assert_eq!((offset_of!(Addition, count), offset_of!(Addition, fields)), (8, 16));
-    assert_eq!(size_of::<Addition>(), 64);
+    assert_eq!(size_of::<Addition>(), 88);
 }
 
 #[test]
@@ -135,6 +143,93 @@ fn every_form_and_both_spaces() {
     let first = "03 00FF 03 01 00 0A 01 01 0B 01 02 0C 03";
     let out = "05 0001 03 02 0B 04 0C 02 3F800000 03 0A 00 FFFFFFFF";
     page.expect_body(&format!("02 0005 02 {first} {out} 06 0102 FFFF 01 05 02 07 0000 0001 00 00 00"));
+}
+
+/// Form, kind, lowest, highest, variable; what a range binds is used as what form 1 binds.
+#[test]
+fn ranges() {
+    let mut page = Page::new(250);
+    let guard = [range(2, 0xC000_0000, 0xBF80_0000, 15), range(0, 0xFFFF_FFFF, 1, 0)];
+    page.expect(BEGIN, addition(1, 7, 9, &guard), 0);
+    page.expect(Call::Operation, addition(3, 8, 9, &[field(2, 9, 15, 3), range(0, 5, 5, 3)]), 0);
+    let uses = [field(4, 2, 15, 0x3F80_0000), field(3, 0, 0, 1), field(3, 0, 3, 2)];
+    page.expect(Call::Operation, addition(5, 1, 999, &uses), 0);
+    let guard = "01 0007 02 06 02 C0000000 BF800000 0F 06 00 FFFFFFFF 00000001 00 02";
+    let reads = "03 0008 02 02 0F 06 00 00000005 00000005 03";
+    let out = "05 0001 03 04 0F 02 3F800000 03 00 00 00000001 03 03 00 00000002";
+    page.expect_body(&format!("02 0005 01 {guard} {reads} {out}"));
+}
+
+/// out, move and copy have no ranges, and inp and rdp are guards alone.
+#[test]
+fn where_ranges_stand() {
+    let near = [range(0, 1, 2, 1)];
+    for (code, guard, operation) in [(1, 0, 0), (2, 0, 6), (3, 0, 0), (4, 0, 6), (5, 6, 6), (6, 6, 6), (7, 6, 6)] {
+        Page::new(250).expect(BEGIN, addition(code, 0, 0, &near), guard);
+        Page::begun(250).expect(Call::Branch, addition(code, 0, 0, &near), guard);
+        Page::begun(250).expect(Call::Operation, addition(code, 0, 0, &near), operation);
+    }
+}
+
+#[test]
+fn ranges_that_are_not_legal() {
+    let guard = |fields: &[Field]| addition(1, 0, 0, fields);
+    let metres = [
+        (0xFF7F_FFFF, 0x7F7F_FFFF, 0),
+        (0x8000_0001, 0x0000_0001, 0),
+        (0x8000_0002, 0x8000_0001, 0),
+        (0, 0, 0),
+        (0x8000_0001, 0x8000_0002, 6),
+        (0xBF80_0000, 0xC000_0000, 6),
+        (0x0000_0001, 0x0000_0000, 6),
+        (0x0000_0000, 0xBF80_0000, 6),
+        (0x8000_0000, 0x0000_0000, 6),
+        (0x0000_0000, 0x8000_0000, 6),
+        (0xFF80_0000, 0x0000_0000, 6),
+        (0x0000_0000, 0x7F80_0000, 6),
+        (0x7FC0_0000, 0x7FC0_0000, 6),
+    ];
+    for (lowest, highest, answer) in metres {
+        Page::new(250).expect(BEGIN, guard(&[range(2, lowest, highest, 0)]), answer);
+    }
+    let (least, greatest) = (0x8000_0000, 0x7FFF_FFFF);
+    for (lowest, highest, answer) in
+        [(least, greatest, 0), (7, 7, 0), (8, 7, 6), (0, 0xFFFF_FFFF, 6), (greatest, least, 6)]
+    {
+        Page::new(250).expect(BEGIN, guard(&[range(0, lowest, highest, 0)]), answer);
+    }
+    for (kind, variable) in [(1, 0), (3, 0), (255, 0), (0, 16), (2, 255)] {
+        Page::new(250).expect(BEGIN, guard(&[range(kind, 1, 2, variable)]), 6);
+    }
+    Page::new(250).expect(BEGIN, guard(&[range(0, 1, 2, 3), range(2, 1, 2, 3)]), 6);
+    Page::new(250).expect(BEGIN, guard(&[field(1, 0, 3, 0), range(0, 1, 2, 3)]), 6);
+    // bound by metres, and used as a whole number
+    let mut page = Page::new(250);
+    page.expect(BEGIN, guard(&[range(2, 1, 2, 3)]), 0);
+    page.expect(Call::Operation, addition(5, 0, 0, &[field(3, 0, 3, 1)]), 6);
+    page.expect(Call::Operation, addition(3, 0, 0, &[range(0, 1, 2, 3)]), 6);
+}
+
+/// Twenty ranges have 242 bytes; a value and a kind make 250, and a variable more 251. Twenty-one have 253.
+#[test]
+fn ranges_to_250_and_to_251_bytes() {
+    let near = |variables: std::ops::Range<u8>| {
+        variables.map(|variable| range(2, 1, 2, variable)).collect::<Vec<Field>>()
+    };
+    let rd = |fields: &[Field]| addition(3, 0, 0, fields);
+    let long = |last: &[Field], answer| {
+        let mut page = Page::new(260);
+        page.expect(BEGIN, rd(&near(0..6)), 0);
+        page.expect(Call::Operation, rd(&near(6..12)), 0);
+        page.expect(Call::Branch, rd(&near(0..6)), 0);
+        page.expect(Call::Operation, rd(&[near(6..8), last.to_vec()].concat()), answer);
+        page.body.bytes.len()
+    };
+    let given = field(0, 0, 0, 7);
+    assert_eq!(long(&[], 0), 242);
+    assert_eq!(long(&[given, field(5, 0, 0, 0)], 0), 250);
+    long(&[given, field(1, 0, 9, 0)], 6);
+    long(&near(8..9), 6);
 }
 
 /// What the guard true does not have is not looked at.
@@ -465,6 +560,72 @@ fn wrong_target_space_of_an_in_looked_at() {
             reference(body, fill, call, addition)
         },
         "the body byte",
+    );
+}
+
+/// Changes each field of a form.
+fn with_fields(mut addition: Addition, form: u8, change: fn(&mut Field)) -> Addition {
+    addition.fields.iter_mut().filter(|field| field.form == form).for_each(change);
+    addition
+}
+
+#[test]
+fn wrong_highest_value_lost() {
+    noticed(
+        |body, fill, call, addition| {
+            reference(body, fill, call, with_fields(addition, 6, |field| field.highest = field.bits))
+        },
+        " and not ",
+    );
+}
+
+#[test]
+fn wrong_ends_of_a_range_exchanged() {
+    noticed(
+        |body, fill, call, addition| {
+            let exchanged = |field: &mut Field| std::mem::swap(&mut field.bits, &mut field.highest);
+            reference(body, fill, call, with_fields(addition, 6, exchanged))
+        },
+        " and not ",
+    );
+}
+
+#[test]
+fn wrong_range_taken_for_form_1() {
+    noticed(
+        |body, fill, call, addition| reference(body, fill, call, with_fields(addition, 6, |field| field.form = 1)),
+        " and not ",
+    );
+}
+
+/// Negative metres, whose bits are in reverse, are refused.
+#[test]
+fn wrong_ends_by_their_bits() {
+    noticed(
+        |body, fill, call, addition| {
+            let is_reverse = |field: &Field| field.form == 6 && field.bits > field.highest;
+            let counted = &addition.fields[..addition.count.min(6)];
+            match reference(body, fill, call, addition) {
+                0 if addition.code != 0 && counted.iter().any(is_reverse) => 6,
+                answer => answer,
+            }
+        },
+        "returned 6 and not 0",
+    );
+}
+
+#[test]
+fn wrong_highest_value_of_another_form_looked_at() {
+    noticed(
+        |body, fill, call, addition| {
+            let is_high = |field: &Field| field.form == 0 && field.bits > field.highest;
+            let counted = &addition.fields[..addition.count.min(6)];
+            match reference(body, fill, call, addition) {
+                0 if addition.code != 0 && counted.iter().any(is_high) => 6,
+                answer => answer,
+            }
+        },
+        "returned 6 and not 0",
     );
 }
 

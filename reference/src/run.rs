@@ -171,8 +171,8 @@ pub fn holds(guard: &Operation, tuples: &[Tuple]) -> bool {
 fn find(op: &Operation, tuples: &mut Vec<Tuple>, bound: &mut Vec<(u8, Value)>) -> Result<(), u8> {
     let oldest = tuples.iter().position(|tuple| matches(op, tuple, bound)).ok_or(16)?;
     for (field, value) in op.fields.iter().zip(&tuples[oldest].values) {
-        if let Field::Bind { variable, .. } = field {
-            bound.push((*variable, *value));
+        if let Some((variable, _)) = field.binding() {
+            bound.push((variable, *value));
         }
     }
     if matches!(op.code, IN | INP) {
@@ -188,7 +188,7 @@ fn deposit(field: &Field, bound: &[(u8, Value)]) -> Result<Value, u8> {
         Field::Use { variable } => return value_of(*variable, bound).ok_or(17),
         Field::Plus { variable, value } => (variable, false, value),
         Field::Minus { variable, value } => (variable, true, value),
-        Field::Bind { .. } | Field::Any { .. } => return Err(17),
+        Field::Bind { .. } | Field::Any { .. } | Field::Range { .. } => return Err(17),
     };
     let value = value_of(*variable, bound).ok_or(17)?;
     value.combine(minus, operand).ok_or(17)
@@ -221,7 +221,8 @@ fn transfer(op: &Operation, tuples: &mut Vec<Tuple>, bound: &[(u8, Value)]) -> R
     Ok(())
 }
 
-fn operate(op: &Operation, tuples: &mut Vec<Tuple>, bound: &mut Vec<(u8, Value)>) -> Result<(), u8> {
+/// One operation past its checks; 16, 17 or 12 where it fails.
+pub fn operate(op: &Operation, tuples: &mut Vec<Tuple>, bound: &mut Vec<(u8, Value)>) -> Result<(), u8> {
     match op.code {
         IN | INP | RD | RDP => find(op, tuples, bound),
         OUT => out(op, tuples, bound),

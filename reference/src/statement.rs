@@ -1,6 +1,6 @@
 //! Statements: an AG body read from bytes to data, and written back.
 
-use crate::value::{Value, NAME};
+use crate::value::{Value, METRES, NAME, WHOLE};
 
 pub const TRUE: u8 = 0;
 pub const IN: u8 = 1;
@@ -40,7 +40,7 @@ pub struct Operation {
     pub fields: Vec<Field>,
 }
 
-/// The six forms, 0 to 5 in this order.
+/// The seven forms, 0 to 6 in this order. A range matches from its lowest to its highest value.
 #[derive(Clone, PartialEq, Eq, Debug)]
 pub enum Field {
     Given(Value),
@@ -49,9 +49,18 @@ pub enum Field {
     Plus { variable: u8, value: Value },
     Minus { variable: u8, value: Value },
     Any { kind: u8 },
+    Range { kind: u8, lowest: [u8; 4], highest: [u8; 4], variable: u8 },
 }
 
 impl Field {
+    /// The variable that the field binds, and its kind.
+    pub fn binding(&self) -> Option<(u8, u8)> {
+        match *self {
+            Field::Bind { kind, variable } | Field::Range { kind, variable, .. } => Some((variable, kind)),
+            _ => None,
+        }
+    }
+
     pub fn form(&self) -> u8 {
         match self {
             Field::Given(_) => 0,
@@ -60,6 +69,7 @@ impl Field {
             Field::Plus { .. } => 3,
             Field::Minus { .. } => 4,
             Field::Any { .. } => 5,
+            Field::Range { .. } => 6,
         }
     }
 }
@@ -85,9 +95,16 @@ impl Rest<'_> {
     }
 
     fn value(&mut self) -> Option<Value> {
-        let kind = self.byte()?;
-        let bytes = [self.byte()?, self.byte()?, self.byte()?, self.byte()?];
-        Some(Value { kind, bytes })
+        Some(Value { kind: self.byte()?, bytes: self.four()? })
+    }
+
+    fn four(&mut self) -> Option<[u8; 4]> {
+        Some([self.byte()?, self.byte()?, self.byte()?, self.byte()?])
+    }
+
+    fn range(&mut self) -> Option<Field> {
+        let (kind, lowest, highest) = (self.byte()?, self.four()?, self.four()?);
+        Some(Field::Range { kind, lowest, highest, variable: self.byte()? })
     }
 
     fn field(&mut self) -> Option<Field> {
@@ -98,6 +115,7 @@ impl Rest<'_> {
             3 => Some(Field::Plus { variable: self.byte()?, value: self.value()? }),
             4 => Some(Field::Minus { variable: self.byte()?, value: self.value()? }),
             5 => Some(Field::Any { kind: self.byte()? }),
+            6 => self.range(),
             _ => None,
         }
     }
@@ -152,6 +170,13 @@ pub fn parts(body: &[u8]) -> Option<Statement> {
     rest.0.is_empty().then_some(statement)
 }
 
+/// The one operation that the bytes are, legal or not, with nothing behind it.
+pub fn operation_parts(bytes: &[u8]) -> Option<Operation> {
+    let mut rest = Rest(bytes);
+    let operation = rest.operation()?;
+    rest.0.is_empty().then_some(operation)
+}
+
 // ---- Writing ----
 
 fn write_value(value: &Value, bytes: &mut Vec<u8>) {
@@ -170,6 +195,11 @@ fn write_field(field: &Field, bytes: &mut Vec<u8>) {
             write_value(value, bytes);
         }
         Field::Any { kind } => bytes.push(*kind),
+        Field::Range { kind, lowest, highest, variable } => {
+            bytes.push(*kind);
+            bytes.extend(lowest.iter().chain(highest));
+            bytes.push(*variable);
+        }
     }
 }
 
@@ -234,23 +264,39 @@ fn variables_are_legal(branch: &Branch) -> bool {
         if !shape_is_legal(operation) || !operation.fields.iter().all(|f| field_is_legal(f, &bound)) {
             return false;
         }
-        for field in &operation.fields {
-            if let Field::Bind { kind, variable } = *field {
-                if bound.iter().any(|(other, _)| *other == variable) {
-                    return false;
-                }
-                bound.push((variable, kind));
-            }
+        if !bind_once(operation, &mut bound) {
+            return false;
         }
     }
     true
+}
+
+/// Adds what the operation binds; false where a variable is bound already.
+fn bind_once(operation: &Operation, bound: &mut Vec<(u8, u8)>) -> bool {
+    for (variable, kind) in operation.fields.iter().filter_map(Field::binding) {
+        if bound.iter().any(|(other, _)| *other == variable) {
+            return false;
+        }
+        bound.push((variable, kind));
+    }
+    true
+}
+
+/// A legal template by itself: of codes 1 to 4, where a form 2 may name every variable from 0 to 15
+/// and none counts as bound before.
+pub fn is_legal_template(operation: &Operation) -> bool {
+    let every: Vec<(u8, u8)> = (0..=15).map(|variable| (variable, WHOLE)).collect();
+    matches!(operation.code, IN | INP | RD | RDP)
+        && shape_is_legal(operation)
+        && operation.fields.iter().all(|field| field_is_legal(field, &every))
+        && bind_once(operation, &mut Vec::new())
 }
 
 /// Counts of spaces and fields, and the forms that the code allows.
 fn shape_is_legal(operation: &Operation) -> bool {
     let (fewest, forms): (usize, &[u8]) = match operation.code {
         TRUE => return operation.spaces.is_empty() && operation.fields.is_empty(),
-        IN | INP | RD | RDP => (1, &[0, 1, 2, 5]),
+        IN | INP | RD | RDP => (1, &[0, 1, 2, 5, 6]),
         OUT => (1, &[0, 2, 3, 4]),
         MOVE | COPY => (0, &[0, 2, 5]),
         _ => return false,
@@ -270,7 +316,19 @@ fn field_is_legal(field: &Field, bound: &[(u8, u8)]) -> bool {
             value.is_legal() && value.kind != NAME && bound.contains(&(*variable, value.kind))
         }
         Field::Any { kind } => *kind <= 2,
+        Field::Range { kind, lowest, highest, variable } => {
+            let (lowest, highest) = (Value { kind: *kind, bytes: *lowest }, Value { kind: *kind, bytes: *highest });
+            *variable <= 15 && range_is_legal(&lowest, &highest)
+        }
     }
+}
+
+/// Whole or metres, both ends legal, and the lowest not above the highest.
+fn range_is_legal(lowest: &Value, highest: &Value) -> bool {
+    matches!(lowest.kind, WHOLE | METRES)
+        && lowest.is_legal()
+        && highest.is_legal()
+        && lowest.is_at_most(highest)
 }
 
 // ---- Questions about a statement ----

@@ -38,6 +38,17 @@ impl Value {
         }
     }
 
+    /// The order within a kind: whole numbers by the signed number, names and metres by theirs. Of
+    /// two kinds neither value is at most the other.
+    pub fn is_at_most(&self, other: &Value) -> bool {
+        match (self.kind, other.kind) {
+            (WHOLE, WHOLE) => i32::from_be_bytes(self.bytes) <= i32::from_be_bytes(other.bytes),
+            (NAME, NAME) => u32::from_be_bytes(self.bytes) <= u32::from_be_bytes(other.bytes),
+            (METRES, METRES) => f32::from_be_bytes(self.bytes) <= f32::from_be_bytes(other.bytes),
+            _ => false,
+        }
+    }
+
     /// The variable's value plus, or minus, the operand; None is refusal 17.
     pub fn combine(&self, minus: bool, operand: &Value) -> Option<Value> {
         match (self.kind, operand.kind) {

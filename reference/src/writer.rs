@@ -3,13 +3,15 @@
 use crate::statement::{self, Branch, Field, Operation, SpaceNumber, Statement};
 use crate::value::Value;
 
-/// A field handed in. Parts that its form does not have are not looked at.
+/// A field handed in. Parts that its form does not have are not looked at; `value` is the lowest of a
+/// form 6, which alone has a `highest`.
 #[derive(Clone, PartialEq, Eq, Debug, Default)]
 pub struct Part {
     pub form: u8,
     pub kind: u8,
     pub variable: u8,
     pub value: [u8; 4],
+    pub highest: [u8; 4],
 }
 
 /// An operation handed in; a wrong count of spaces is a breach.
@@ -33,6 +35,7 @@ fn field(part: &Part) -> Option<Field> {
         3 => Some(Field::Plus { variable, value }),
         4 => Some(Field::Minus { variable, value }),
         5 => Some(Field::Any { kind }),
+        6 => Some(Field::Range { kind, lowest: part.value, highest: part.highest, variable }),
         _ => None,
     }
 }

@@ -2,8 +2,9 @@
 
 use reference::generate::cells::{impossible, missing, wanted_of_debts};
 use reference::generate::coverage::Coverage;
-use reference::generate::match_cells;
 use reference::generate::matches::Matches;
+use reference::generate::meetings::Meetings;
+use reference::generate::{match_cells, meeting_cells, range_cells};
 use reference::generate::{Profile, Stream, PROFILES};
 use std::collections::BTreeSet;
 
@@ -46,6 +47,23 @@ fn debts_reach_every_cell() {
     }
 }
 
+/// Streams with few tuples reach all cells of ranges by themselves.
+#[test]
+fn ranges_reach_every_cell() {
+    let few = [Profile::Ordinary, Profile::Waiting, Profile::Arithmetic, Profile::Damage];
+    for seed in [1, 2024] {
+        let mut coverage = Coverage::default();
+        for number in 0..2400 {
+            let mut stream = Stream::new(seed, number);
+            let records = if few.contains(&stream.profile()) { 15 } else { 0 };
+            (0..records).for_each(|_| coverage.add(&stream.step()));
+        }
+        let mut missing = range_cells::wanted();
+        missing.retain(|cell| !coverage.cells.contains_key(cell));
+        assert!(missing.is_empty(), "seed {seed}, never reached: {missing:?}");
+    }
+}
+
 #[test]
 fn long_streams_are_mostly_taken() {
     let coverage = run(5, 24, 300);
@@ -66,6 +84,20 @@ fn matches_reach_every_cell() {
         assert!(found.is_empty(), "cannot occur: {found:?}");
         for answer in 0..=3 {
             assert!(count(&format!("match {answer} in all")) >= 600, "{answer}");
+        }
+    }
+}
+
+#[test]
+fn meetings_reach_every_cell() {
+    for seed in [1, 11, 2024] {
+        let (mut coverage, mut meetings) = (Coverage::default(), Meetings::new(seed));
+        (0..8_000).for_each(|_| coverage.add_meeting(&meetings.make()));
+        let count = |cell: &str| coverage.cells.get(cell).copied().unwrap_or(0);
+        let missing: Vec<String> = meeting_cells::wanted().into_iter().filter(|cell| count(cell) == 0).collect();
+        assert!(missing.is_empty(), "seed {seed}, never reached: {missing:?}");
+        for answer in [0, 1, 6, 19] {
+            assert!(count(&format!("meet {answer} in all")) >= 800, "{answer}");
         }
     }
 }

@@ -556,13 +556,14 @@ fn a_body_read_is_written_back_the_same() {
 fn part(field: &Field) -> Part {
     let form = field.form();
     match *field {
-        Field::Given(value) => Part { form, kind: value.kind, variable: 99, value: value.bytes },
-        Field::Bind { kind, variable } => Part { form, kind, variable, value: [9; 4] },
-        Field::Use { variable } => Part { form, kind: 99, variable, value: [9; 4] },
+        Field::Given(value) => Part { form, kind: value.kind, variable: 99, value: value.bytes, highest: [8; 4] },
+        Field::Bind { kind, variable } => Part { form, kind, variable, value: [9; 4], highest: [8; 4] },
+        Field::Use { variable } => Part { form, kind: 99, variable, value: [9; 4], highest: [8; 4] },
         Field::Plus { variable, value } | Field::Minus { variable, value } => {
-            Part { form, kind: value.kind, variable, value: value.bytes }
+            Part { form, kind: value.kind, variable, value: value.bytes, highest: [8; 4] }
         }
-        Field::Any { kind } => Part { form, kind, variable: 99, value: [9; 4] },
+        Field::Any { kind } => Part { form, kind, variable: 99, value: [9; 4], highest: [8; 4] },
+        Field::Range { kind, lowest, highest, variable } => Part { form, kind, variable, value: lowest, highest },
     }
 }
 
@@ -628,7 +629,7 @@ fn the_writer_refuses_6_then_2() {
     let mut buffer = vec![7; 16];
     assert_eq!(writer::begin(&mut buffer, 2, 5, &guard), (0, 6));
     assert_eq!(buffer, [2, 0, 5, 1, 0, 0, 7, 7, 7, 7, 7, 7, 7, 7, 7, 7]);
-    let given = Part { form: 0, kind: 0, variable: 0, value: [0, 0, 0, 9] };
+    let given = Part { value: [0, 0, 0, 9], ..Part::default() };
     let out = |space| Addition { code: 5, spaces: vec![space], fields: vec![given.clone()] };
     let nowhere = Addition { spaces: vec![], ..out(0) };
     assert_eq!(writer::add_operation(&mut buffer, 6, &nowhere), (6, 6));

@@ -13,8 +13,9 @@ use reference::statement::{COPY, IN, INP, MOVE, RD, RDP, TRUE};
 use reference::value::Value;
 use std::process::Command;
 
-/// Kind and bytes of a template's field or a tuple's value; a formal has no bytes.
-type Part = (u8, Option<[u8; 4]>);
+/// Kind of a template's field or a tuple's value, and its lowest and highest bytes; a formal without a
+/// range has none.
+type Part = (u8, Option<([u8; 4], [u8; 4])>);
 
 /// A line of `vectors --matches`, read byte by byte.
 struct Line {
@@ -26,8 +27,19 @@ struct Line {
     answer: u8,
 }
 
-fn four(bytes: &[u8]) -> Option<[u8; 4]> {
-    Some(bytes[..4].try_into().unwrap())
+/// The same bytes for both ends.
+fn four(bytes: &[u8]) -> Option<([u8; 4], [u8; 4])> {
+    let one = bytes[..4].try_into().unwrap();
+    Some((one, one))
+}
+
+/// A number that tells the order of the values of a kind.
+fn number(kind: u8, bytes: [u8; 4]) -> f64 {
+    match kind {
+        2 => f32::from_be_bytes(bytes).into(),
+        0 => i32::from_be_bytes(bytes).into(),
+        _ => u32::from_be_bytes(bytes).into(),
+    }
 }
 
 /// `VARIABLE:KIND:EIGHTHEX` with commas between, in rising number.
@@ -50,11 +62,13 @@ fn read_fields(code: u8, mut bytes: &[u8], bound: &[(u8, Part)]) -> Vec<Part> {
         let transfer = code == MOVE || code == COPY;
         let (length, part) = match form {
             0 => (5, (rest[0], four(&rest[1..]))),
-            1 => {
-                assert!(!transfer && rest[1] <= 15 && !new.contains(&rest[1]));
-                assert!(bound.iter().all(|(variable, _)| *variable != rest[1]));
-                new.push(rest[1]);
-                (2, (rest[0], None))
+            1 | 6 => {
+                let at = if *form == 1 { 1 } else { 9 };
+                assert!(!transfer && rest[at] <= 15 && !new.contains(&rest[at]));
+                assert!(bound.iter().all(|(variable, _)| *variable != rest[at]));
+                new.push(rest[at]);
+                let ends = (*form == 6).then(|| (four(&rest[1..]).unwrap().0, four(&rest[5..]).unwrap().0));
+                (at + 1, (rest[0], ends))
             }
             2 => (1, bound.iter().find(|(variable, _)| *variable == rest[0]).unwrap().1),
             5 => (1, (rest[0], None)),
@@ -89,14 +103,20 @@ fn printed(arguments: &[&str]) -> String {
 }
 
 /// 1 exactly if the numbers differ; 2 exactly if they agree and some kind differs; 3 exactly if those
-/// agree and some given value differs; 0 exactly if all agree.
+/// agree and some value is not the given one or out of its range; 0 exactly if all agree.
 #[test]
 fn laws_of_the_answer() {
     for line in printed(&["--matches", "5", "6000"]).lines() {
         let read = read_line(line);
         let (fields, values) = (&read.fields, &read.values);
         let numbers = fields.len() == values.len();
-        let differs = |own: &Part, found: &Part| own.1.is_some() && own.1 != found.1;
+        let differs = |own: &Part, found: &Part| {
+            let value = found.1.unwrap().0;
+            own.1.is_some_and(|(lowest, highest)| {
+                let (low, high) = (number(own.0, lowest), number(own.0, highest));
+                !(low..=high).contains(&number(own.0, value))
+            })
+        };
         let kinds = (0..fields.len().min(values.len())).all(|at| fields[at].0 == values[at].0);
         let bytes = (0..fields.len().min(values.len())).all(|at| !differs(&fields[at], &values[at]));
         assert_eq!(read.answer == 1, !numbers, "{line}");
@@ -121,7 +141,15 @@ fn lines_are_well_formed() {
         let parts: Vec<&str> = line.split(' ').collect();
         assert_eq!(unhex(parts[1]), operation_bytes(&one.operation));
         assert_eq!(unhex(parts[3]), tuple_entry(&one.tuple));
-        let legal = |part: &Part| part.0 <= 2 && part.1.is_none_or(|bytes| Value { kind: part.0, bytes }.is_legal());
+        let legal_end = |kind: u8, bytes: [u8; 4]| Value { kind, bytes }.is_legal();
+        let legal = |part: &Part| {
+            let (kind, ends) = *part;
+            kind <= 2
+                && ends.is_none_or(|(low, high)| {
+                    let rising = low == high || kind != 1 && number(kind, low) < number(kind, high);
+                    rising && legal_end(kind, low) && legal_end(kind, high)
+                })
+        };
         assert!(read.fields.iter().chain(&read.values).all(legal), "{line}");
     }
 }

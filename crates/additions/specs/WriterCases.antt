@@ -11,24 +11,27 @@ use Rattle.writer.specs.Writer.{isHanded, handed, begun, inLast, withOperation,
 
 -- ---- what is handed in
 
-abbrev fieldWith : (form kind variable bits : ℕ) → Field
-fieldWith form k x n = record { form = form; kind = k; variable = x; bits = n }
+abbrev fieldWith : (form kind variable bits highest : ℕ) → Field
+fieldWith form k x n m = record { form = form; kind = k; variable = x; bits = n; highest = m }
 
--- a given value, a variable bound, used, plus a value, and any value of a kind
+-- a given value, a variable bound, used, plus a value, any value of a kind, and a variable bound in a range
 abbrev given : (kind bits : ℕ) → Field
-given k n = fieldWith 0 k 0 n
+given k n = fieldWith 0 k 0 n 0
 
 abbrev into : (kind variable : ℕ) → Field
-into k x = fieldWith 1 k x 0
+into k x = fieldWith 1 k x 0 0
 
 abbrev usedAs : (variable : ℕ) → Field
-usedAs x = fieldWith 2 0 x 0
+usedAs x = fieldWith 2 0 x 0 0
 
 abbrev plusOf : (variable kind bits : ℕ) → Field
-plusOf x k n = fieldWith 3 k x n
+plusOf x k n = fieldWith 3 k x n 0
 
 abbrev anyOf : (kind : ℕ) → Field
-anyOf k = fieldWith 5 k 0 0
+anyOf k = fieldWith 5 k 0 0 0
+
+abbrev between : (kind lowest highest variable : ℕ) → Field
+between k n m x = fieldWith 6 k x n m
 
 abbrev operationWith : (code from to : ℕ) → List Field → Operation
 operationWith code from to fs = record { code = code; from = from; to = to; count = length fs; fields = fs }
@@ -96,8 +99,12 @@ writtenBodies =
     (2 ∷ 0 ∷ 6 ∷ 1 ∷ 0 ∷ 1 ∷ 5 ∷ 0 ∷ 0 ∷ 2 ∷ 0 ∷ 1 ∷ 0 ∷ 0 ∷ 0 ∷ 7 ∷ 0 ∷ 0 ∷ 0 ∷ 0 ∷ 0 ∷ 41 ∷ [])
     ∷ row 40 1 256 (operationWith 4 259 0 (anyOf 2 ∷ [])) (branch (operationWith 2 256 0 (anyOf 1 ∷ [])) ∷ operation (operationWith 6 65535 512 []) ∷ []) 0
     (1 ∷ 1 ∷ 0 ∷ 2 ∷ 4 ∷ 1 ∷ 3 ∷ 1 ∷ 5 ∷ 2 ∷ 0 ∷ 2 ∷ 1 ∷ 0 ∷ 1 ∷ 5 ∷ 1 ∷ 1 ∷ 6 ∷ 255 ∷ 255 ∷ 2 ∷ 0 ∷ 0 ∷ [])
-    ∷ row 40 0 0 (record { code = 0; from = 300; to = 301; count = 9; fields = fieldWith 6 9 99 5 ∷ [] }) (operation (operationWith 3 7 302 (fieldWith 5 2 99 5 ∷ [])) ∷ []) 0
+    ∷ row 40 0 0 (record { code = 0; from = 300; to = 301; count = 9; fields = fieldWith 7 9 99 5 6 ∷ [] }) (operation (operationWith 3 7 302 (fieldWith 5 2 99 5 6 ∷ [])) ∷ []) 0
     (0 ∷ 0 ∷ 0 ∷ 1 ∷ 0 ∷ 1 ∷ 3 ∷ 0 ∷ 7 ∷ 1 ∷ 5 ∷ 2 ∷ [])
+    ∷ row 31 2 5 (operationWith 1 0 0 (between 0 0xFFFFFFFF 5 0 ∷ [])) (operation (operationWith 5 0 0 (plusOf 0 0 1 ∷ [])) ∷ []) 0
+    (2 ∷ 0 ∷ 5 ∷ 1 ∷ 1 ∷ 0 ∷ 0 ∷ 1 ∷ 6 ∷ 0 ∷ 255 ∷ 255 ∷ 255 ∷ 255 ∷ 0 ∷ 0 ∷ 0 ∷ 5 ∷ 0 ∷ 1 ∷ 5 ∷ 0 ∷ 0 ∷ 1 ∷ 3 ∷ 0 ∷ 0 ∷ 0 ∷ 0 ∷ 0 ∷ 1 ∷ [])
+    ∷ row 40 2 5 (operationWith 4 0 0 (between 2 0xC0000000 0xBF800000 15 ∷ [])) (operation (operationWith 3 0 0 (between 0 7 7 14 ∷ [])) ∷ []) 0
+    (2 ∷ 0 ∷ 5 ∷ 1 ∷ 4 ∷ 0 ∷ 0 ∷ 1 ∷ 6 ∷ 2 ∷ 192 ∷ 0 ∷ 0 ∷ 0 ∷ 191 ∷ 128 ∷ 0 ∷ 0 ∷ 15 ∷ 1 ∷ 3 ∷ 0 ∷ 0 ∷ 1 ∷ 6 ∷ 0 ∷ 0 ∷ 0 ∷ 0 ∷ 7 ∷ 0 ∷ 0 ∷ 0 ∷ 7 ∷ 14 ∷ [])
     ∷ []
 
 unfoldable pub refusedAdditions : List Case
@@ -110,13 +117,24 @@ refusedAdditions =
     ∷ guardRefused (operationWith 5 0 0 (given 0 1 ∷ []))
     ∷ guardRefused (operationWith 1 0 0 [])
     ∷ guardRefused (operationWith 1 0 0 (given 0 1 ∷ given 0 1 ∷ given 0 1 ∷ given 0 1 ∷ given 0 1 ∷ given 0 1 ∷ given 0 1 ∷ []))
-    ∷ guardRefused (operationWith 1 0 0 (fieldWith 6 0 0 0 ∷ []))
+    ∷ guardRefused (operationWith 1 0 0 (fieldWith 7 0 0 0 0 ∷ []))
     ∷ guardRefused (operationWith 1 0 0 (given 1 65536 ∷ []))
     ∷ guardRefused (operationWith 1 0 0 (into 0 16 ∷ []))
     ∷ guardRefused (operationWith 1 0 0 (usedAs 0 ∷ []))
+    ∷ row 19 2 5 (operationWith 1 0 0 (between 0 1 2 0 ∷ [])) [] 2 []
+    ∷ guardRefused (operationWith 1 0 0 (between 0 6 5 0 ∷ []))
+    ∷ guardRefused (operationWith 1 0 0 (between 0 5 0xFFFFFFFF 0 ∷ []))
+    ∷ guardRefused (operationWith 1 0 0 (between 2 0xBF800000 0xC0000000 0 ∷ []))
+    ∷ guardRefused (operationWith 1 0 0 (between 2 0x80000000 0 0 ∷ []))
+    ∷ guardRefused (operationWith 1 0 0 (between 1 5 6 0 ∷ []))
+    ∷ guardRefused (operationWith 1 0 0 (between 3 5 6 0 ∷ []))
+    ∷ guardRefused (operationWith 1 0 0 (between 0 5 6 16 ∷ []))
     ∷ operationRefused truth
     ∷ operationRefused (operationWith 2 0 0 (given 0 1 ∷ []))
     ∷ operationRefused (operationWith 1 0 0 (into 0 0 ∷ []))
+    ∷ operationRefused (operationWith 1 0 0 (between 0 5 6 0 ∷ []))
+    ∷ operationRefused (operationWith 5 0 0 (between 0 5 6 1 ∷ []))
+    ∷ operationRefused (operationWith 7 0 0 (between 0 5 6 1 ∷ []))
     ∷ operationRefused (operationWith 5 0 0 (usedAs 1 ∷ []))
     ∷ operationRefused (operationWith 5 0 0 (plusOf 0 1 1 ∷ []))
     ∷ row 40 2 5 inSeven (branch (operationWith 5 0 0 (given 0 1 ∷ [])) ∷ []) 6 beganSeven
@@ -146,6 +164,13 @@ threeBranches = branch (wholes 2) ∷ branch (wholes 3) ∷ branch (wholes 4) �
 abbrev fullBody : List Addition
 fullBody = threeBranches ++ (operation (wholes 5) ∷ operation (wholes 6) ∷ [])
 
+-- the longest operation, 70 bytes: 4 + 3 * 71 are 217, and a fourth such branch would make 288
+abbrev ranges : (code : ℕ) → Operation
+ranges code = operationWith code 0 0 (between 0 1 2 0 ∷ between 0 1 2 1 ∷ between 0 1 2 2 ∷ between 0 1 2 3 ∷ between 0 1 2 4 ∷ between 0 1 2 5 ∷ [])
+
+abbrev twoRanged : List Addition
+twoRanged = branch (ranges 2) ∷ branch (ranges 3) ∷ []
+
 unfoldable pub limits : List (ℕ × ℕ)
 limits =
     told (on300 truth eightCopies)
@@ -154,6 +179,8 @@ limits =
     ∷ told (on300 (wholes 1) (threeBranches ++ (branch truth ∷ [])))
     ∷ told (on300 (wholes 1) fullBody)
     ∷ told (on300 (wholes 1) (fullBody ++ (copyAll ∷ [])))
+    ∷ told (on300 (ranges 1) twoRanged)
+    ∷ told (on300 (ranges 1) (twoRanged ++ (branch (ranges 4) ∷ [])))
     ∷ []
 
 -- ---- the theorem
@@ -161,7 +188,7 @@ limits =
 pub record Cases : Type 0 where
   pub bodies : map wrote writtenBodies ≡ map expected writtenBodies
   pub refusals : map wrote refusedAdditions ≡ map expected refusedAdditions
-  pub ends : limits ≡ (0, 54) ∷ (6, 54) ∷ (0, 168) ∷ (6, 168) ∷ (0, 250) ∷ (6, 250) ∷ []
+  pub ends : limits ≡ (0, 54) ∷ (6, 54) ∷ (0, 168) ∷ (6, 168) ∷ (0, 250) ∷ (6, 250) ∷ (0, 217) ∷ (6, 217) ∷ []
 
 pub cases : Cases
 unfolding computes fieldOf fieldIs fieldsAre operationOf operationIs hasForm isHanded handed begun inLast withOperation withBranch isWritable refusedBy filledWith written held beginOn addTo addOperation addBranch writes wrote expected writtenBodies refusedAdditions limits

@@ -17,7 +17,7 @@ fieldsIn o = fieldsAre (take (o .count) (o .fields))
 
 -- a field of which every part is 0
 abbrev pub noField : Field
-noField = record { form = 0; kind = 0; variable = 0; bits = 0 }
+noField = record { form = 0; kind = 0; variable = 0; bits = 0; highest = 0 }
 
 -- the field with number j stands first of those from j on
 abbrev pub Next : Operation → ℕ → Type 0

@@ -76,7 +76,8 @@ module _ (bs : Bindings) (f : Field) where
       go (suc (suc zero)) e a b c d = absurd (b refl)
       go (suc (suc (suc zero))) e a b c d = absurd (c refl)
       go (suc (suc (suc (suc zero)))) e a b c d = absurd (d refl)
-      go (suc (suc (suc (suc (suc n))))) e a b c d = rw e
+      go (suc (suc (suc (suc (suc zero))))) e a b c d = rw e
+      go (suc (suc (suc (suc (suc (suc n)))))) e a b c d = rw e
 
   -- what the forms 3 and 4 ask for
   pub can-sum : f .form ≡ 3 → CanMake bs (fieldIs f) → Summable bs (f .variable) (value (f .kind) (f .bits))

@@ -36,6 +36,14 @@ struct Sought {
     pub bits: u32,
 }
 
+// A kind and, where one is given, a range of values; that of one value has its bits twice.
+struct Asks {
+    pub kind: u8,
+    pub given: bool,
+    pub lowest: u32,
+    pub highest: u32,
+}
+
 // Before a branch runs no variable is bound.
 pub fn no_vars() -> Vars
     ensures { λ r. ⌜ bindingsOf r ≡ unbound ⌝ }
@@ -68,24 +76,32 @@ fn held(v: Vars, variable: u8) -> Sought
     }
 }
 
-// What a template's field asks for.
-fn asked(f: Field, v: Vars) -> Sought
-    ensures { λ r. ⌜ templateFieldIs (r .kind) (r .given) (r .bits) ≡ templateField (bindingsOf v) (fieldIs f) ⌝ }
+// What a template's field asks for: forms 0 and 2 one value, form 6 its range, the others any value of the kind.
+fn asked(f: Field, v: Vars) -> Asks
+    ensures { λ r. ⌜ templateFieldIs (r .kind) (r .given) (r .lowest) (r .highest) ≡ templateField (bindingsOf v) (fieldIs f) ⌝ }
 {
     if f.form == 0 {
-        return Sought {
+        return Asks {
             kind: f.kind,
             given: true,
-            bits: f.bits,
+            lowest: f.bits,
+            highest: f.bits,
         };
     }
     if f.form == 2 {
-        return held(v, f.variable);
+        let h = held(v, f.variable);
+        return Asks {
+            kind: h.kind,
+            given: true,
+            lowest: h.bits,
+            highest: h.bits,
+        };
     }
-    Sought {
+    Asks {
         kind: f.kind,
-        given: false,
-        bits: 0,
+        given: 6 <= f.form,
+        lowest: f.bits,
+        highest: f.highest,
     }
 }
 
@@ -96,14 +112,16 @@ pub fn template_of(op: Operation, v: Vars) -> Template
 {
     let mut kinds = [0u8; words::MOST_FIELDS];
     let mut given = [false; words::MOST_FIELDS];
-    let mut bits = [0u32; words::MOST_FIELDS];
+    let mut lowest = [0u32; words::MOST_FIELDS];
+    let mut highest = [0u32; words::MOST_FIELDS];
     let n = op.count;
     let mut i = 0;
     while i < n {
         let a = asked(op.fields[i], v);
         kinds[i] = a.kind;
         given[i] = a.given;
-        bits[i] = a.bits;
+        lowest[i] = a.lowest;
+        highest[i] = a.highest;
         i += 1;
     }
     Template {
@@ -111,7 +129,8 @@ pub fn template_of(op: Operation, v: Vars) -> Template
         count: n,
         kinds,
         given,
-        bits,
+        lowest,
+        highest,
     }
 }
 

@@ -2,3 +2,4 @@ pub mod Shown
 pub mod Table
 pub mod StateBytes
 pub mod Answers
+pub mod Meetings

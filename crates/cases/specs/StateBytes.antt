@@ -107,6 +107,23 @@ pub last-left : encode (runOf (decode lastNumbers) lastStream) ≡ (84 ∷ 83 �
 unfolding computes runOf lastNumbers lastStream
 last-left = refl
 
+-- a drive waits for (name 7, metres 3.49 to 3.51), and 3.6 is there
+unfoldable pub driveWaits : Bytes
+driveWaits = (84 ∷ 83 ∷ 0 ∷ 0 ∷ 0 ∷ 3 ∷ 0 ∷ 4 ∷ 0 ∷ 0 ∷ 0 ∷ 0 ∷ 1 ∷ 1 ∷ 0 ∷ 1 ∷ 1 ∷ (zeros 209 ++ (2 ∷ 1 ∷ 0 ∷ 0 ∷ 0 ∷ 7 ∷ 2 ∷ 64 ∷ 102 ∷ 102 ∷ 102 ∷ (zeros 16886 ++ (2 ∷ 0 ∷ 26 ∷ 2 ∷ 0 ∷ 5 ∷ 1 ∷ 1 ∷ 0 ∷ 0 ∷ 2 ∷ 0 ∷ 1 ∷ 0 ∷ 0 ∷ 0 ∷ 7 ∷ 6 ∷ 2 ∷ 64 ∷ 95 ∷ 92 ∷ 41 ∷ 64 ∷ 96 ∷ 163 ∷ 215 ∷ zeros 8162)))))
+
+pub drive-left : encode (runOf fresh ((82 ∷ 86 ∷ 0 ∷ 1 ∷ 0 ∷ 0 ∷ 0 ∷ 1 ∷ 2 ∷ []) ∷ (65 ∷ 71 ∷ 0 ∷ 26 ∷ 0 ∷ 0 ∷ 0 ∷ 2 ∷ 2 ∷ 0 ∷ 5 ∷ 1 ∷ 1 ∷ 0 ∷ 0 ∷ 2 ∷ 0 ∷ 1 ∷ 0 ∷ 0 ∷ 0 ∷ 7 ∷ 6 ∷ 2 ∷ 64 ∷ 95 ∷ 92 ∷ 41 ∷ 64 ∷ 96 ∷ 163 ∷ 215 ∷ 0 ∷ 0 ∷ []) ∷ (65 ∷ 71 ∷ 0 ∷ 22 ∷ 0 ∷ 0 ∷ 0 ∷ 3 ∷ 2 ∷ 0 ∷ 6 ∷ 1 ∷ 0 ∷ 1 ∷ 5 ∷ 0 ∷ 0 ∷ 2 ∷ 0 ∷ 1 ∷ 0 ∷ 0 ∷ 0 ∷ 7 ∷ 0 ∷ 2 ∷ 64 ∷ 102 ∷ 102 ∷ 102 ∷ []) ∷ [])) ≡ driveWaits
+unfolding computes runOf driveWaits
+drive-left = refl
+
+pub drive-state : isState driveWaits ≡ true
+unfolding computes driveWaits
+drive-state = refl
+
+-- 3.5 wakes it: both replies, the second with the value, and the state without it
+pub drive-call : takeCall (record { state = driveWaits; input = (65 ∷ 71 ∷ 0 ∷ 22 ∷ 0 ∷ 0 ∷ 0 ∷ 4 ∷ 2 ∷ 0 ∷ 6 ∷ 1 ∷ 0 ∷ 1 ∷ 5 ∷ 0 ∷ 0 ∷ 2 ∷ 0 ∷ 1 ∷ 0 ∷ 0 ∷ 0 ∷ 7 ∷ 0 ∷ 2 ∷ 64 ∷ 96 ∷ 0 ∷ 0 ∷ []); reply = replicate 3564 165 }) ≡ record { returned = 30; state = (84 ∷ 83 ∷ 0 ∷ 0 ∷ 0 ∷ 4 ∷ 0 ∷ 4 ∷ 0 ∷ 0 ∷ 0 ∷ 0 ∷ 1 ∷ 1 ∷ 0 ∷ 1 ∷ (zeros 210 ++ (2 ∷ 1 ∷ 0 ∷ 0 ∷ 0 ∷ 7 ∷ 2 ∷ 64 ∷ 102 ∷ 102 ∷ 102 ∷ zeros 25075))); reply = (82 ∷ 80 ∷ 0 ∷ 0 ∷ 0 ∷ 4 ∷ 2 ∷ 0 ∷ 6 ∷ 0 ∷ 1 ∷ 0 ∷ 82 ∷ 80 ∷ 0 ∷ 0 ∷ 0 ∷ 2 ∷ 2 ∷ 0 ∷ 5 ∷ 0 ∷ 1 ∷ 1 ∷ 0 ∷ 2 ∷ 64 ∷ 96 ∷ 0 ∷ 0 ∷ []) ++ replicate 3534 165 }
+unfolding computes driveWaits
+drive-call = refl
+
 -- 512 tuples, three hosts up, two monitors, two waiting statements
 unfoldable pub full : Bytes
 full = (84 ∷ 83 ∷ 0 ∷ 0 ∷ 0 ∷ 9 ∷ 128 ∷ 5 ∷ 2 ∷ 0 ∷ 0 ∷ 0 ∷ 4 ∷ 3 ∷ 2 ∷ 0 ∷ 2 ∷ (zeros 53 ++ (2 ∷ 1 ∷ 0 ∷ 5 ∷ 0 ∷ 3 ∷ (zeros 148 ++ (rows 512 (0 ∷ 0 ∷ 1 ∷ 1 ∷ 0 ∷ 0 ∷ 0 ∷ 7 ∷ zeros 25) ++ (0 ∷ 0 ∷ 0 ∷ 3 ∷ 0 ∷ 15 ∷ 2 ∷ 0 ∷ 5 ∷ 1 ∷ 1 ∷ 0 ∷ 2 ∷ 1 ∷ 0 ∷ 1 ∷ 0 ∷ 0 ∷ 0 ∷ 9 ∷ (zeros 239 ++ (7 ∷ 0 ∷ 15 ∷ 15 ∷ 0 ∷ 6 ∷ 1 ∷ 1 ∷ 0 ∷ 0 ∷ 1 ∷ 0 ∷ 1 ∷ 0 ∷ 0 ∷ 0 ∷ 9 ∷ zeros 7916))))))))

@@ -35,6 +35,7 @@ fn field(form: u8, kind: u8, variable: u8, bits: u32) -> Field {
         kind,
         variable,
         bits,
+        highest: 0,
     }
 }
 

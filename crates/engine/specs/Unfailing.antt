@@ -15,7 +15,7 @@ use Rattle.basis.specs.ListLaws.{keep-length}
 use Rattle.basis.specs.Sizes.{mostTuples, spaceWidth}
 use Rattle.model.specs.Value.{Value}
 use Rattle.model.specs.Statement as Model
-use Rattle.model.specs.Statement.{actual, formal, reference, sum, difference, anonymous, deposit, transfer}
+use Rattle.model.specs.Statement.{actual, formal, reference, sum, difference, anonymous, ranged, deposit, transfer}
 use Rattle.model.specs.Matching.{Tuple, Bindings, valueOf, selects}
 use Rattle.model.specs.Execution.{failed, made, madeAll, appended, inSpace, moved, perform, andThen, performAll}
 use Rattle.model.specs.Reading.{_>>=_, give, natural, counted, chosenBy, field, onSpace, onSpaces, operation}
@@ -43,6 +43,7 @@ isPlain (reference x) = true
 isPlain (sum x v) = false
 isPlain (difference x v) = false
 isPlain (anonymous k) = false
+isPlain (ranged k r x) = false
 
 -- with so much room for tuples
 pub data CannotFail : (room : ℕ) → List Model.Operation → Type 0 where
@@ -60,6 +61,7 @@ plain-made bs (reference x) t = (valueOf bs x, refl)
 plain-made bs (sum x v) t = absurd t
 plain-made bs (difference x v) t = absurd t
 plain-made bs (anonymous k) t = absurd t
+plain-made bs (ranged k r x) t = absurd t
 
 all-made : (bs : Bindings) (fs : List Model.Field) → T (all isPlain fs) → (vs : List Value) × (madeAll bs fs ≡ some vs)
 unfolding all madeAll

@@ -11,9 +11,9 @@ use borrow.Author.Tests.{eq-eqb, ne-eqb}
 use Rattle.basis.specs.Choice.{maybe, isSome}
 use Rattle.basis.specs.Logic.{and-l, and-r}
 use Rattle.basis.specs.Sizes.{variables}
-use Rattle.model.specs.Value.{Value, value, name, isKind, legalValue}
-use Rattle.model.specs.Statement.{Field, actual, formal, reference, sum, difference, anonymous, Binder, binderOf}
-use Rattle.model.specs.Legal.{Kinds, kindIn, legalBinder, summable, legalParts, legalField}
+use Rattle.model.specs.Value.{Value, value, name, isKind, legalValue, range, atMost}
+use Rattle.model.specs.Statement.{Field, actual, formal, reference, sum, difference, anonymous, ranged, Binder, binderOf}
+use Rattle.model.specs.Legal.{Kinds, kindIn, legalBinder, summable, legalRange, legalParts, legalField}
 use Rattle.statements.specs.Flat.{fieldOf}
 use Rattle.fields.specs.Kinds.{kinds, kindIs}
 
@@ -50,34 +50,59 @@ unbound-none (suc k) = rw (ne-eqb (suc k) 0 (λ e. omega arith))
 
 -- ---- the parts of a field, form by form
 
-module _ (earlier : Kinds) (form k x n : ℕ) where
-  pub parts-actual : form ≡ 0 → legalValue (value k n) ≡ legalParts earlier (fieldOf form k x n)
+module _ (earlier : Kinds) (form k x n m : ℕ) where
+  pub parts-actual : form ≡ 0 → legalValue (value k n) ≡ legalParts earlier (fieldOf form k x n m)
   unfolding legalParts fieldOf
   parts-actual e = rw e
 
-  pub parts-formal : form ≡ 1 → true ≡ legalParts earlier (fieldOf form k x n)
+  pub parts-formal : form ≡ 1 → true ≡ legalParts earlier (fieldOf form k x n m)
   unfolding legalParts fieldOf
   parts-formal e = rw e
 
-  pub parts-reference : form ≡ 2 → isSome (kindIn earlier x) ≡ legalParts earlier (fieldOf form k x n)
+  pub parts-reference : form ≡ 2 → isSome (kindIn earlier x) ≡ legalParts earlier (fieldOf form k x n m)
   unfolding legalParts fieldOf
   parts-reference e = rw e
 
-  pub parts-sum : 3 ≤ form → form < 5 → summable (kindIn earlier x) (value k n) ≡ legalParts earlier (fieldOf form k x n)
+  pub parts-sum : 3 ≤ form → form < 5 → summable (kindIn earlier x) (value k n) ≡ legalParts earlier (fieldOf form k x n m)
   unfolding legalParts fieldOf
   parts-sum l h = go form l h
     where
-      go : (f : ℕ) → 3 ≤ f → f < 5 → summable (kindIn earlier x) (value k n) ≡ legalParts earlier (fieldOf f k x n)
+      go : (f : ℕ) → 3 ≤ f → f < 5 → summable (kindIn earlier x) (value k n) ≡ legalParts earlier (fieldOf f k x n m)
       go zero l h = absurd (omega arith)
       go (suc zero) l h = absurd (omega arith)
       go (suc (suc zero)) l h = absurd (omega arith)
       go (suc (suc (suc zero))) l h = refl
       go (suc (suc (suc (suc zero)))) l h = refl
-      go (suc (suc (suc (suc (suc m))))) l h = absurd (omega arith)
+      go (suc (suc (suc (suc (suc i))))) l h = absurd (omega arith)
 
-  pub parts-anonymous : 5 ≤ form → ltb k kinds ≡ legalParts earlier (fieldOf form k x n)
+  pub parts-anonymous : form ≡ 5 → ltb k kinds ≡ legalParts earlier (fieldOf form k x n m)
   unfolding legalParts fieldOf isKind
-  parts-anonymous h = rw (List·getD-eq-default (actual (value k n) ∷ formal k x ∷ reference x ∷ sum x (value k n) ∷ difference x (value k n) ∷ []) (anonymous k) h)
+  parts-anonymous e = rw e
+
+  pub parts-range : 6 ≤ form → legalRange k (range n m) ≡ legalParts earlier (fieldOf form k x n m)
+  unfolding legalParts fieldOf
+  parts-range h =
+      rw (List·getD-eq-default (actual (value k n) ∷ formal k x ∷ reference x ∷ sum x (value k n) ∷ difference x (value k n) ∷ anonymous k ∷ []) (ranged k (range n m) x) h)
+
+-- ---- a range, test by test
+
+module _ (k n m : ℕ) where
+  pub range-name : k ≡ name → false ≡ legalRange k (range n m)
+  unfolding legalRange
+  range-name e = rw e
+
+  module _ (d : k ≡ name → ⊥) where
+    pub range-lowest : legalValue (value k n) ≡ false → false ≡ legalRange k (range n m)
+    unfolding legalRange
+    range-lowest e = rw (ne-eqb k name d, e)
+
+    pub range-highest : legalValue (value k n) ≡ true → legalValue (value k m) ≡ false → false ≡ legalRange k (range n m)
+    unfolding legalRange
+    range-highest e f = rw (ne-eqb k name d, e, f)
+
+    pub range-order : legalValue (value k n) ≡ true → legalValue (value k m) ≡ true → atMost k n m ≡ legalRange k (range n m)
+    unfolding legalRange
+    range-order e f = rw (ne-eqb k name d, e, f)
 
 -- ---- a field, by its parts and by what it binds
 

@@ -2,9 +2,9 @@
 ghost use mathlib.Core.Path.{_≡_};
 ghost use mathlib.Core.Option.{some};
 ghost use lib.Dec.{T};
-ghost use Rattle.model.specs.Value.{value};
+ghost use Rattle.model.specs.Value.{value, range};
 ghost use Rattle.model.specs.Statement.{Binder, binderOf};
-ghost use Rattle.model.specs.Legal.{kindIn, legalBinder, summable, legalParts, legalField, bindKind};
+ghost use Rattle.model.specs.Legal.{kindIn, legalBinder, summable, legalRange, legalParts, legalField, bindKind};
 ghost use Rattle.statements.specs.Flat.{fieldIs};
 ghost use Rattle.fields.specs.Kinds.{kindIs, kindsAre, boundIs};
 ghost use Rattle.fields.specs.Forms.{allows};
@@ -13,6 +13,7 @@ use statements::Field;
 use statements::OUT;
 use statements::binds;
 use values::NAME;
+use values::at_most;
 use values::legal_value;
 use words::VARIABLES;
 use words::size;
@@ -66,6 +67,22 @@ fn binder_ok(kind: u8, variable: u8, now: [u8; VARIABLES]) -> bool
     kind_at(now, variable) == 0
 }
 
+// A range: of whole numbers or metres, both ends legal, the lowest at most the highest.
+fn range_ok(kind: u8, lowest: u32, highest: u32) -> bool
+    ensures { λ r. ⌜ r ≡ legalRange kind (range lowest highest) ⌝ }
+{
+    if kind == NAME {
+        return false;
+    }
+    if !legal_value(kind, lowest) {
+        return false;
+    }
+    if !legal_value(kind, highest) {
+        return false;
+    }
+    at_most(kind, lowest, highest)
+}
+
 // What a form asks of a field's other parts.
 fn parts_ok(f: Field, earlier: [u8; VARIABLES]) -> bool
     ensures { λ r. ⌜ r ≡ legalParts (kindsAre earlier) (fieldIs f) ⌝ }
@@ -76,7 +93,8 @@ fn parts_ok(f: Field, earlier: [u8; VARIABLES]) -> bool
         1 => true,
         2 => kind_at(earlier, f.variable) != 0,
         3 | 4 => sum_ok(kind_at(earlier, f.variable), f.kind, f.bits),
-        _ => f.kind < KINDS,
+        5 => f.kind < KINDS,
+        _ => range_ok(f.kind, f.bits, f.highest),
     }
 }
 
@@ -93,7 +111,7 @@ fn field_ok(f: Field, earlier: [u8; VARIABLES], now: [u8; VARIABLES]) -> bool
     true
 }
 
-// "1 to 4 allow forms 0, 1, 2, 5; out 0, 2, 3, 4; move and copy 0, 2, 5".
+// "1 to 4 allow forms 0, 1, 2, 5", and 6; "out 0, 2, 3, 4; move and copy 0, 2, 5".
 fn form_ok(code: u8, form: u8) -> bool
     ensures { λ r. ⌜ r ≡ allows code form ⌝ }
 {
@@ -102,7 +120,8 @@ fn form_ok(code: u8, form: u8) -> bool
         1 => code < OUT,
         2 => true,
         3 | 4 => code == OUT,
-        _ => code != OUT,
+        5 => code != OUT,
+        _ => code < OUT,
     }
 }
 

@@ -12,7 +12,7 @@ use borrow.Author.Tests.{lt-ltb, le-ltb, le-leb, ne-eqb}
 use Rattle.basis.specs.Choice.{provided}
 use Rattle.basis.specs.Sizes.{mostFields, spaceNumbers}
 use Rattle.model.specs.Statement as model
-use Rattle.model.specs.Legal.{Kinds, bindKinds, legalFields, fieldsOf, isSpace, fieldCount, legalOperation}
+use Rattle.model.specs.Legal.{Kinds, bindKinds, legalFields, fieldsOf, isSpace, fieldCount, legalOperation, templateForms}
 use Rattle.statements.specs.Flat.{fieldIs, fieldsAre, operationOf, operationIs}
 use Rattle.statements.specs.declared.Operation.{Operation}
 use Rattle.statements.specs.declared.Field.{Field}
@@ -44,10 +44,10 @@ operation-step ks code from to fs h = by code h
 
     by : (code : ℕ) → 0 < code → operationStep ks (operationOf code from to fs) ≡ decided (headLegal code from to (length fs)) (judged (allowedBy code) ks ks fs)
     by zero h = absurd (omega arith)
-    by (suc zero) h = split (isSpace from && fieldCount 1 fs) (0 ∷ 1 ∷ 2 ∷ 5 ∷ [])
-    by (suc (suc zero)) h = split (isSpace from && fieldCount 1 fs) (0 ∷ 1 ∷ 2 ∷ 5 ∷ [])
-    by (suc (suc (suc zero))) h = split (isSpace from && fieldCount 1 fs) (0 ∷ 1 ∷ 2 ∷ 5 ∷ [])
-    by (suc (suc (suc (suc zero)))) h = split (isSpace from && fieldCount 1 fs) (0 ∷ 1 ∷ 2 ∷ 5 ∷ [])
+    by (suc zero) h = split (isSpace from && fieldCount 1 fs) templateForms
+    by (suc (suc zero)) h = split (isSpace from && fieldCount 1 fs) templateForms
+    by (suc (suc (suc zero))) h = split (isSpace from && fieldCount 1 fs) templateForms
+    by (suc (suc (suc (suc zero)))) h = split (isSpace from && fieldCount 1 fs) templateForms
     by (suc (suc (suc (suc (suc zero))))) h = split (isSpace from && fieldCount 1 fs) (0 ∷ 2 ∷ 3 ∷ 4 ∷ [])
     by (suc (suc (suc (suc (suc (suc zero)))))) h = split (isSpace from && isSpace to && fieldCount 0 fs) (0 ∷ 2 ∷ 5 ∷ [])
     by (suc (suc (suc (suc (suc (suc (suc n))))))) h =

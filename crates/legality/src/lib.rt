@@ -19,20 +19,23 @@ use statements::TWO_SPACES;
 use statements::read_operation;
 use words::VARIABLES;
 
-// The fields of an operation after the kinds that earlier ones bound.
-fn fields_ok(op: Operation, kinds: [u8; VARIABLES]) -> Bound
+// The fields of an operation: `earlier` has the kinds that earlier ones bound, and can be used; `start` those that may not be bound again.
+pub fn fields_ok(op: Operation, earlier: [u8; VARIABLES], start: [u8; VARIABLES]) -> Bound
     requires { ⌜ op .count ≤ mostFields ⌝ }
-    ensures { λ r. ⌜ boundIs r ≡ judged (allowedBy (op .code)) (kindsAre kinds) (kindsAre kinds) (fieldsAre (take (op .count) (op .fields))) ⌝ }
+    ensures { λ r. ⌜ boundIs r ≡ judged (allowedBy (op .code)) (kindsAre earlier) (kindsAre start) (fieldsAre (take (op .count) (op .fields))) ⌝ }
 {
     let fields = op.fields;
     let count = op.count;
-    let mut now = kinds;
+    let mut now = start;
     let mut i: usize = 0;
     while i < count {
         let f = fields[i];
-        let r = field_step(op.code, f, kinds, now);
+        let r = field_step(op.code, f, earlier, now);
         if !r.ok {
-            return Bound { ok: false, kinds };
+            return Bound {
+                ok: false,
+                kinds: start,
+            };
         }
         let after = r.kinds;
         now = after;
@@ -46,7 +49,7 @@ fn fields_ok(op: Operation, kinds: [u8; VARIABLES]) -> Bound
 
 // The spaces and the field count of an operation: at least one field but in move and copy. Its spaces are space numbers
 // whatever they are.
-fn head_ok(op: Operation) -> bool
+pub fn head_ok(op: Operation) -> bool
     requires { ⌜ op .count ≤ mostFields ⌝ }
     ensures { λ r. ⌜ r ≡ headLegal (op .code) (op .from) (op .to) (op .count) ⌝ }
 {
@@ -67,7 +70,7 @@ pub fn operation_ok(op: Operation, kinds: [u8; VARIABLES]) -> Bound
     if !head_ok(op) {
         return Bound { ok: false, kinds };
     }
-    fields_ok(op, kinds)
+    fields_ok(op, kinds, kinds)
 }
 
 // The kinds of the variables bound after an operation, and the position after it; 0: there is none.

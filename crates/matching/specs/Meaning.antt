@@ -6,6 +6,7 @@ use mathlib.Core.List.{List, [], _∷_}
 use lib.ListN.{getD}
 use Rattle.basis.specs.Choice.{provided}
 use Rattle.basis.specs.Lists.{Found}
+use Rattle.model.specs.Value.{range}
 use Rattle.model.specs.Matching.{Tuple, TemplateField, Template, Mismatch, noMismatch, inCount, inKinds, inValues}
 use Rattle.matching.specs.declared.Template as code
 use Rattle.matching.specs.declared.Mismatch as answer
@@ -14,20 +15,20 @@ use Rattle.matching.specs.declared.Found as found
 use Rattle.matching.specs.declared.Found.the-variants.{At, Nothing}
 use Rattle.tuples.specs.Section.{tupleAt}
 
--- a field: its kind and, where one is given, its bits
-abbrev pub templateFieldIs : (kind : ℕ) (given : Bool) (bits : ℕ) → TemplateField
-templateFieldIs k g n = record { kind = k; given = provided g n }
+-- a field: its kind and, where one is given, its range
+abbrev pub templateFieldIs : (kind : ℕ) (given : Bool) (lowest highest : ℕ) → TemplateField
+templateFieldIs k g l h = record { kind = k; given = provided g (range l h) }
 
--- field f of three lists, and so many fields from f on
-abbrev pub templateFieldAt : (kinds : List ℕ) (given : List Bool) (bits : List ℕ) → ℕ → TemplateField
-templateFieldAt ks gs ns f = templateFieldIs (getD ks f 0) (getD gs f false) (getD ns f 0)
+-- field f of four lists, and so many fields from f on
+abbrev pub templateFieldAt : (kinds : List ℕ) (given : List Bool) (lowest highest : List ℕ) → ℕ → TemplateField
+templateFieldAt ks gs ls hs f = templateFieldIs (getD ks f 0) (getD gs f false) (getD ls f 0) (getD hs f 0)
 
-unfoldable pub templateFieldsFrom : (kinds : List ℕ) (given : List Bool) (bits : List ℕ) (f count : ℕ) → List TemplateField
-templateFieldsFrom ks gs ns f zero = []
-templateFieldsFrom ks gs ns f (suc n) = templateFieldAt ks gs ns f ∷ templateFieldsFrom ks gs ns (suc f) n
+unfoldable pub templateFieldsFrom : (kinds : List ℕ) (given : List Bool) (lowest highest : List ℕ) (f count : ℕ) → List TemplateField
+templateFieldsFrom ks gs ls hs f zero = []
+templateFieldsFrom ks gs ls hs f (suc n) = templateFieldAt ks gs ls hs f ∷ templateFieldsFrom ks gs ls hs (suc f) n
 
 abbrev pub templateIs : code.Template → Template
-templateIs t = record { space = t .space; fields = templateFieldsFrom (t .kinds) (t .given) (t .bits) 0 (t .count) }
+templateIs t = record { space = t .space; fields = templateFieldsFrom (t .kinds) (t .given) (t .lowest) (t .highest) 0 (t .count) }
 
 -- which condition an answer of the code names; its number is `mismatchNumber` of that
 unfoldable pub mismatchIs : answer.Mismatch → Mismatch

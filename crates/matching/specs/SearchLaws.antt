@@ -1,6 +1,6 @@
 -- What the search for a match meets on its way: the conditions field by field, the search tuple by tuple. Assumes nothing.
-use mathlib.Core.Path.{_≡_, refl, sym, ap, _∙_}
-use mathlib.Core.Bool.{Bool, true, false, _&&_}
+use mathlib.Core.Path.{_≡_, refl, sym, ap, subst, _∙_}
+use mathlib.Core.Bool.{Bool, true, false, _&&_, and-false}
 use mathlib.Core.List.{List, _∷_}
 use mathlib.Core.Option.{Option}
 use Prim.Native.Nat.{ℕ, zero, suc, _+_, _-_, _≤_, _<_}
@@ -9,11 +9,12 @@ use native.Mathlib.Numerals.{add-one}
 use native.Mathlib.Nat.{sub-zero}
 use lib.ListN.{length, drop, getD, drop-of-length-le}
 use lib.Dec.{eqb}
-use borrow.Author.Tests.{eq-eqb, ne-eqb}
+use borrow.Author.Tests.{eq-eqb, ne-eqb, eqb-true, eqb-false}
 use Rattle.basis.specs.Choice.{provided}
 use Rattle.basis.specs.Lists.{Found, firstFrom, first}
 use Rattle.basis.specs.Sizes.{mostFields}
-use Rattle.model.specs.Value.{Value}
+use Rattle.model.specs.Value.{Value, range, isWithin}
+use Rattle.model.specs.OrderLaws.{within-exactly}
 use Rattle.model.specs.Matching.{Tuple, TemplateField, sameCount, eachPair, sameKind, sameKinds, sameValue, sameValues, Mismatch, mismatchNumber, firstMismatch, sameSpace, isMatch}
 use Rattle.sections.specs.Shapes.{items-length}
 use Rattle.tuples.specs.Section.{tupleShape, tupleAt, tuplesOf}
@@ -27,10 +28,10 @@ use Rattle.matching.specs.Meaning.{templateFieldAt, templateFieldsFrom, 
 
 -- field f of a template, and so many from f on
 abbrev pub fieldAt : Template → ℕ → TemplateField
-fieldAt t f = templateFieldAt (t .kinds) (t .given) (t .bits) f
+fieldAt t f = templateFieldAt (t .kinds) (t .given) (t .lowest) (t .highest) f
 
-abbrev fieldsFrom : Template → (f count : ℕ) → List TemplateField
-fieldsFrom t f n = templateFieldsFrom (t .kinds) (t .given) (t .bits) f n
+abbrev pub fieldsFrom : Template → (f count : ℕ) → List TemplateField
+fieldsFrom t f n = templateFieldsFrom (t .kinds) (t .given) (t .lowest) (t .highest) f n
 
 -- ---- one pair of corresponding fields: field f of a template and a value
 
@@ -47,13 +48,22 @@ module _ (t : Template) (f : ℕ) (v : Value) where
   unfolding sameValue provided
   value-any g = rw g
 
-  pub value-other : (n : ℕ) → n ≡ v .bits → getD (t .given) f false ≡ true → (n ≡ getD (t .bits) f 0 → ⊥) → sameValue (fieldAt t f) v ≡ false
+  -- a range is given: its test
+  pub value-ranged : (n : ℕ) → n ≡ v .bits → getD (t .given) f false ≡ true → (r : Bool)
+      → r ≡ isWithin (getD (t .kinds) f 0) (range (getD (t .lowest) f 0) (getD (t .highest) f 0)) n → sameValue (fieldAt t f) v ≡ r
   unfolding sameValue provided
-  value-other n is g d = rw g (ne-eqb (getD (t .bits) f 0) (v .bits) (λ e. d (is ∙ sym e)))
+  value-ranged n is g r e = rw (g, e, is)
 
-  pub value-same : (n : ℕ) → n ≡ v .bits → getD (t .given) f false ≡ true → n ≡ getD (t .bits) f 0 → sameValue (fieldAt t f) v ≡ true
-  unfolding sameValue provided
-  value-same n is g e = rw g (eq-eqb (getD (t .bits) f 0) (v .bits) (sym e ∙ is))
+  -- one of equal ends: the test of its bits
+  module _ (n : ℕ) (is : n ≡ v .bits) (g : getD (t .given) f false ≡ true) (one : getD (t .lowest) f 0 ≡ getD (t .highest) f 0) where
+    value-exact : sameValue (fieldAt t f) v ≡ eqb (getD (t .lowest) f 0) n
+    value-exact = value-ranged n is g (eqb (getD (t .lowest) f 0) n) (rw (← one) (sym (within-exactly (getD (t .kinds) f 0) (getD (t .lowest) f 0) n)))
+
+    pub value-other : (n ≡ getD (t .lowest) f 0 → ⊥) → sameValue (fieldAt t f) v ≡ false
+    value-other d = value-exact ∙ ne-eqb (getD (t .lowest) f 0) n (λ e. d (sym e))
+
+    pub value-same : n ≡ getD (t .lowest) f 0 → sameValue (fieldAt t f) v ≡ true
+    value-same e = value-exact ∙ eq-eqb (getD (t .lowest) f 0) n (sym e)
 
 -- ---- the pairs from field f on, of n
 
@@ -81,6 +91,12 @@ module _ (test : TemplateField → Value → Bool) (t : Template) (p : List ℕ)
   pub pairs-end : n ≤ f → pairsFrom test t p i n f ≡ true
   unfolding pairsFrom templateFieldsFrom eachPair
   pairs-end h = let e : n - f ≡ 0 = omega arith in rw e
+
+-- one that fails makes all fail
+pub pairs-false : (test : TemplateField → Value → Bool) (t : Template) (p : List ℕ) (i n f d j : ℕ) → f ≡ j + d → f < n → test (fieldAt t f) (valueIn p i f) ≡ false → pairsFrom test t p i n j ≡ false
+pairs-false test t p i n f zero j q h e = let same : f ≡ j = omega arith in pairs-miss test t p i n j (omega arith) (subst (λ k. test (fieldAt t k) (valueIn p i k) ≡ false) same e)
+pairs-false test t p i n f (suc d) j q h e =
+    pairs-step test t p i n j (omega arith) ∙ rw (pairs-false test t p i n f d (j + 1) (omega arith) h e) (and-false (test (fieldAt t j) (valueIn p i j)))
 
 -- ---- one tuple
 
@@ -118,6 +134,31 @@ module _ (t : Template) (p : List ℕ) (i c : ℕ) (has : c ≡ length ((tupleAt
     pub none-told : pairs sameKind ≡ true → pairs sameValue ≡ true → mismatchIs None ≡ firstMismatch (templateIs t) (tupleAt p i)
     unfolding mismatchIs firstMismatch sameKinds sameValues
     none-told k v = rw (same-count, all-pairs sameKind, k, all-pairs sameValue, v)
+
+-- ---- no match
+
+told-none : (t : Template) (u : Tuple) (m : Mismatch) → m ≡ firstMismatch (templateIs t) u → eqb (mismatchNumber m) 0 ≡ false → isMatch (templateIs t) u ≡ false
+unfolding isMatch
+told-none t u m e z = rw (← e, z) (and-false (sameSpace (templateIs t) u))
+
+-- a value fails, so that the tuple is none, whatever its number of values
+pub value-differs : (t : Template) (p : List ℕ) (i f : ℕ) → t .count ≤ mostFields → f < t .count → sameValue (fieldAt t f) (valueIn p i f) ≡ false → isMatch (templateIs t) (tupleAt p i) ≡ false
+unfolding mismatchIs mismatchNumber
+value-differs t p i f few h e = by (eqb c (t .count)) refl
+  where
+    c : ℕ
+    c = length ((tupleAt p i) .values)
+
+    all : pairsFrom sameValue t p i (t .count) 0 ≡ false
+    all = pairs-false sameValue t p i (t .count) f f 0 (omega arith) h e
+
+    kinds : c ≡ t .count → (k : Bool) → pairsFrom sameKind t p i (t .count) 0 ≡ k → isMatch (templateIs t) (tupleAt p i) ≡ false
+    kinds q true k = told-none t (tupleAt p i) (mismatchIs Values) (values-told t p i c refl q few k all) refl
+    kinds q false k = told-none t (tupleAt p i) (mismatchIs Kinds) (kinds-told t p i c refl q few k) refl
+
+    by : (b : Bool) → eqb c (t .count) ≡ b → isMatch (templateIs t) (tupleAt p i) ≡ false
+    by true q = kinds (eqb-true c (t .count) q) (pairsFrom sameKind t p i (t .count) 0) refl
+    by false q = told-none t (tupleAt p i) (mismatchIs Count) (count-told t p i c refl (eqb-false c (t .count) q)) refl
 
 -- ---- a match
 

@@ -1,5 +1,6 @@
 // Rule 1 on the tuples of a state: which of them a template matches, and the oldest one.
 ghost use mathlib.Core.Path.{_≡_};
+ghost use mathlib.Core.Bool.{false};
 ghost use Prim.Native.Nat.{_+_, _≤_};
 ghost use lib.ListN.{length};
 ghost use Rattle.basis.specs.Lists.{first};
@@ -9,13 +10,15 @@ ghost use Rattle.tuples.specs.Section.{tupleAt, tuplesOf};
 ghost use Rattle.sections.specs.Rows.{HasRows};
 ghost use Rattle.matching.specs.Meaning.{templateIs, mismatchIs, foundIs};
 
-// What a template asks for: the space, and of each of `count` fields the kind and, where one is given, the value.
+// What a template asks for: the space, and of each of `count` fields the kind and, where one is given, the range of values; that of one value has its
+// bits twice.
 pub struct Template {
     pub space: u16,
     pub count: usize,
     pub kinds: [u8; words::MOST_FIELDS],
     pub given: [bool; words::MOST_FIELDS],
-    pub bits: [u32; words::MOST_FIELDS],
+    pub lowest: [u32; words::MOST_FIELDS],
+    pub highest: [u32; words::MOST_FIELDS],
 }
 
 // Which condition of document 003, section 5.1, fails first: 0 none, 1 the number of fields, 2 the kinds, 3 the values.
@@ -58,10 +61,17 @@ pub fn first_mismatch(tuples: &[u8], i: usize, template: Template) -> Mismatch
         if f == template.count {
             break 'values;
         }
-        // "If both F_μ and F_τ are actuals, they match if and only if their respective values are equal";
-        // "If F_μ is a formal and F_τ is an actual, they match".
+        // "If both F_μ and F_τ are actuals, they match if and only if their respective values are equal"; a range "matches a value from lowest to highest,
+        // both included" (L4), so that one of equal ends asks for the value itself; "If F_μ is a formal and F_τ is an actual, they match".
         if template.given[f] {
-            if tuples::bits(tuples, i, f) != template.bits[f] {
+            let n = tuples::bits(tuples, i, f);
+            let lowest = template.lowest[f];
+            let highest = template.highest[f];
+            if lowest == highest {
+                if n != lowest {
+                    return Mismatch::Values;
+                }
+            } else if !values::is_within(template.kinds[f], lowest, highest, n) {
                 return Mismatch::Values;
             }
         }
@@ -70,8 +80,36 @@ pub fn first_mismatch(tuples: &[u8], i: usize, template: Template) -> Mismatch
     Mismatch::None
 }
 
+// A quick test before the conditions: no match where the space or a value that is given exactly differs. (It is written into each search, and the
+// conditions are called for what it lets through.)
+fn may_match(tuples: &[u8], i: usize, template: Template) -> bool
+    requires { ⌜ HasRows tupleSize (now tuples) (i + 1) × (template .count ≤ mostFields) ⌝ }
+    ensures { λ r. ⌜ (r ≡ false → isMatch (templateIs template) (tupleAt (now (tuples .entry)) i) ≡ false) ⌝ }
+{
+    let space = tuples::space(tuples, i);
+    if space != template.space {
+        return false;
+    }
+    let mut e = 0;
+    'values: while e < words::MOST_FIELDS {
+        if e == template.count {
+            break 'values;
+        }
+        if template.given[e] {
+            let lowest = template.lowest[e];
+            if lowest == template.highest[e] {
+                if tuples::bits(tuples, i, e) != lowest {
+                    return false;
+                }
+            }
+        }
+        e += 1;
+    }
+    true
+}
+
 // A match: the same space, and none fails.
-pub fn is_match(tuples: &[u8], i: usize, template: Template) -> bool
+fn agrees(tuples: &[u8], i: usize, template: Template) -> bool
     requires { ⌜ HasRows tupleSize (now tuples) (i + 1) × (template .count ≤ mostFields) ⌝ }
     ensures { λ r. ⌜ r ≡ isMatch (templateIs template) (tupleAt (now (tuples .entry)) i) ⌝ }
 {
@@ -86,6 +124,17 @@ pub fn is_match(tuples: &[u8], i: usize, template: Template) -> bool
     }
 }
 
+// Whether a tuple is a match.
+pub fn is_match(tuples: &[u8], i: usize, template: Template) -> bool
+    requires { ⌜ HasRows tupleSize (now tuples) (i + 1) × (template .count ≤ mostFields) ⌝ }
+    ensures { λ r. ⌜ r ≡ isMatch (templateIs template) (tupleAt (now (tuples .entry)) i) ⌝ }
+{
+    if !may_match(tuples, i, template) {
+        return false;
+    }
+    agrees(tuples, i, template)
+}
+
 // "the oldest match": the first of n tuples that the template matches.
 pub fn find(tuples: &[u8], n: usize, template: Template) -> Found
     requires { ⌜ (length (now tuples) ≡ tuplesSize) × (n ≤ mostTuples) × (template .count ≤ mostFields) ⌝ }
@@ -93,8 +142,10 @@ pub fn find(tuples: &[u8], n: usize, template: Template) -> Found
 {
     let mut i = 0;
     while i < n {
-        if is_match(tuples, i, template) {
-            return Found::At(i);
+        if may_match(tuples, i, template) {
+            if agrees(tuples, i, template) {
+                return Found::At(i);
+            }
         }
         i += 1;
     }

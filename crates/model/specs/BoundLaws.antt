@@ -17,9 +17,9 @@ use Rattle.basis.specs.IndexLaws.{Decides, Least}
 use Rattle.basis.specs.Sizes.{variables}
 use Rattle.model.specs.Value.{Value}
 use Rattle.model.specs.Statement.{Field, Binder, binderOf, Operation, always, lookup, deposit, transfer, Branch, operations, Statement}
-use Rattle.model.specs.Legal.{Kinds, noKinds, bindKind, bindKinds, legalFields, fieldsOf, legalOperation, legalOperations, legalBranch, legalStatement}
+use Rattle.model.specs.Legal.{Kinds, noKinds, bindKind, bindKinds, legalFields, fieldsOf, templateForms, legalOperation, legalOperations, legalBranch, legalStatement}
 use Rattle.model.specs.LegalWords.{FieldOk, FormIn, OperationOk, BranchOk, Throughout, throughout-in}
-use Rattle.model.specs.BinderLaws.{BindsAt, binder-binds, binds-binder, binds-none}
+use Rattle.model.specs.BinderLaws.{BindsAt, binder-binds, binds-binder, bindingBarred, binds-none}
 use Rattle.model.specs.LegalLaws.{branch-iff}
 use Rattle.model.specs.Matching.{Tuple, Bindings, unbound, bindField, bind}
 use Rattle.model.specs.MatchingLaws.{bindField-length}
@@ -91,7 +91,7 @@ binds-low b x ok q =
 
     of-operation : (before : List Field) (o : Operation) → OperationOk before o → Some (BindsField x) (fieldsOf o) → x < variables
     of-operation before always h q = unfold fieldsOf in absurd (List·Memᴰ·not-nil (q .1))
-    of-operation before (lookup withdraws blocks s fs) h q = of-fields (0 ∷ 1 ∷ 2 ∷ 5 ∷ []) before fs (h .3) (unfold fieldsOf in q)
+    of-operation before (lookup withdraws blocks s fs) h q = of-fields templateForms before fs (h .3) (unfold fieldsOf in q)
     of-operation before (deposit s fs) h q = of-fields (0 ∷ 2 ∷ 3 ∷ 4 ∷ []) before fs (h .3) (unfold fieldsOf in q)
     of-operation before (transfer withdraws from to fs) h q = of-fields (0 ∷ 2 ∷ 5 ∷ []) before fs (h .3) (unfold fieldsOf in q)
 
@@ -146,21 +146,21 @@ other-form : (f : Field) (x : ℕ) → binderOf f ≡ none → bindsField x f �
 unfolding bindsField
 other-form f x e = rw e
 
--- fields of which none may be of form 1 bind nothing
-no-form-1 : (allowed : List ℕ) (earlier now : Kinds) (fs : List Field) (x : ℕ) → T (not (isIn 1 allowed)) → T (legalFields allowed earlier now fs) → any (bindsField x) fs ≡ false
+-- fields of which none may be of form 1 or 6 bind nothing
+none-binds : (allowed : List ℕ) (earlier now : Kinds) (fs : List Field) (x : ℕ) → T (bindingBarred allowed) → T (legalFields allowed earlier now fs) → any (bindsField x) fs ≡ false
 unfolding any
-no-form-1 allowed earlier now [] x barred t = refl
-no-form-1 allowed earlier now (f ∷ fs) x barred t =
+none-binds allowed earlier now [] x barred t = refl
+none-binds allowed earlier now (f ∷ fs) x barred t =
     let h = fields-cons allowed earlier now f fs t in
-    rw (other-form f x (binds-none allowed f barred (h .0))) (no-form-1 allowed earlier (bindKind now f) fs x barred (h .2))
+    rw (other-form f x (binds-none allowed f barred (h .0))) (none-binds allowed earlier (bindKind now f) fs x barred (h .2))
 
 out-binds : (ks : Kinds) (s : ℕ) (fs : List Field) (x : ℕ) → T (legalOperation ks (deposit s fs)) → any (bindsField x) fs ≡ false
 unfolding legalOperation isIn any
-out-binds ks s fs x t = no-form-1 (0 ∷ 2 ∷ 3 ∷ 4 ∷ []) ks ks fs x tt (search (and-l, and-r, t) depth 6)
+out-binds ks s fs x t = none-binds (0 ∷ 2 ∷ 3 ∷ 4 ∷ []) ks ks fs x tt (search (and-l, and-r, t) depth 6)
 
 transfer-binds : (ks : Kinds) (withdraws : Bool) (from to : ℕ) (fs : List Field) (x : ℕ) → T (legalOperation ks (transfer withdraws from to fs)) → any (bindsField x) fs ≡ false
 unfolding legalOperation isIn any
-transfer-binds ks withdraws from to fs x t = no-form-1 (0 ∷ 2 ∷ 5 ∷ []) ks ks fs x tt (search (and-l, and-r, t) depth 6)
+transfer-binds ks withdraws from to fs x t = none-binds (0 ∷ 2 ∷ 5 ∷ []) ks ks fs x tt (search (and-l, and-r, t) depth 6)
 
 -- an operation that is done binds what its fields bind
 operation-binds : (ks : Kinds) (o : Operation) (bs : Bindings) (ts : List Tuple) (bs′ : Bindings) (ts′ : List Tuple) → T (legalOperation ks o) → perform o bs ts ≡ done bs′ ts′

@@ -10,11 +10,11 @@ use Rattle.basis.specs.ListLaws.{Each, each-nil, each-cons, each-append}
 use Rattle.basis.specs.Numbers.{bigEndian}
 use Rattle.basis.specs.NumberLaws.{bigEndian-length}
 use Rattle.basis.specs.PadLaws.{flatMap-append}
-use Rattle.basis.specs.Sizes.{bitsWidth, valueSize, mostFields, formWidth, valueBitsAt, pastKind, pastVariable, formalSize, referenceSize, sumSize, anonymousSize, fieldsSize}
+use Rattle.basis.specs.Sizes.{bitsWidth, valueSize, mostFields, formWidth, valueBitsAt, pastKind, pastVariable, formalSize, referenceSize, anonymousSize, highestAt, rangeVariableAt, variableWidth, rangeSize, fieldsSize}
 use Rattle.words.specs.Over.{over}
 use Rattle.model.specs.Value.{value}
 use Rattle.model.specs.Statement as model
-use Rattle.model.specs.Statement.{actual, formal, reference, sum, difference, anonymous}
+use Rattle.model.specs.Statement.{actual, formal, reference, sum, difference, anonymous, ranged}
 use Rattle.model.specs.Writing.{valueBytes, fieldBytes}
 use Rattle.model.specs.RoundTrip.{FitsField}
 use Rattle.statements.specs.declared.Field.{Field}
@@ -41,6 +41,25 @@ value-put d e at k n h s =
     let p = puts-over (set d at k) (at + valueBitsAt) (bigEndian bitsWidth n) bitsWidth e (bigEndian-length bitsWidth n) s in
     rw m at (puts-then d at (k ∷ []) (set d at k) (at + valueBitsAt) (bigEndian bitsWidth n) e (at + valueBitsAt + bitsWidth) (puts-byte d at k (omega arith)) p (omega arith))
 
+-- ---- a range and its variable
+
+abbrev pub rangeBytes : Field → List ℕ
+rangeBytes f = valueBytes (value (f .kind) (f .bits)) ++ (bigEndian bitsWidth (f .highest) ++ (f .variable ∷ []))
+
+-- a kind byte and the lowest, the highest, then the variable
+pub range-put : (f : Field) (d e₁ e₂ : List ℕ) (at m : ℕ) → at + rangeSize ≤ length d + formWidth → length e₁ ≡ length d → length e₂ ≡ length d
+    → Puts d at (valueBytes (value (f .kind) (f .bits))) e₁ m → e₂ ≡ over e₁ (at + highestAt) (bigEndian bitsWidth (f .highest)) bitsWidth
+    → Puts d at (rangeBytes f) (set e₂ (at + rangeVariableAt) (f .variable)) (at + rangeVariableAt + variableWidth)
+range-put f d e₁ e₂ at m h l₁ l₂ p s =
+    let highest : List ℕ = bigEndian bitsWidth (f .highest) in
+    let x : List ℕ = f .variable ∷ [] in
+    let n₁ : m ≡ at + highestAt = omega (arith, p .stops, value-length (f .kind) (f .bits)) in
+    let n₂ : at + highestAt + bitsWidth ≡ at + rangeVariableAt = omega arith in
+    let q : Puts e₁ (at + highestAt) highest e₂ (at + rangeVariableAt) = rw n₂ at (puts-over e₁ (at + highestAt) highest bitsWidth e₂ (bigEndian-length bitsWidth (f .highest)) s) in
+    let last : Puts e₂ (at + rangeVariableAt) x (set e₂ (at + rangeVariableAt) (f .variable)) (at + rangeVariableAt + variableWidth) = puts-byte e₂ (at + rangeVariableAt) (f .variable) (omega arith) in
+    let rest = puts-then e₁ (at + highestAt) highest e₂ (at + rangeVariableAt) x _ (at + rangeVariableAt + variableWidth) q last (omega arith) in
+    puts-then d at (valueBytes (value (f .kind) (f .bits))) e₁ (at + highestAt) (highest ++ x) _ (at + rangeVariableAt + variableWidth) (rw n₁ at p) rest (omega arith)
+
 -- ---- a field
 
 -- a field is put, and has room in its bytes
@@ -48,8 +67,8 @@ pub record PutField (f : Field) (before : List ℕ) (at : ℕ) (after : List ℕ
   pub puts : Puts before at (fieldBytes (fieldIs f)) after end
   pub fits : FitsField (fieldIs f)
 
--- no field is longer than a sum
-pub field-most : (f : model.Field) → length (fieldBytes f) ≤ sumSize
+-- no field is longer than a range
+pub field-most : (f : model.Field) → length (fieldBytes f) ≤ rangeSize
 unfolding fieldBytes
 field-most (actual v) = omega (arith, value-length (v .kind) (v .bits))
 field-most (formal k x) = omega arith
@@ -57,35 +76,40 @@ field-most (reference x) = omega arith
 field-most (sum x v) = omega (arith, value-length (v .kind) (v .bits))
 field-most (difference x v) = omega (arith, value-length (v .kind) (v .bits))
 field-most (anonymous k) = omega arith
+field-most (ranged k r x) =
+    let lowest : List ℕ = bigEndian bitsWidth (r .lowest) in
+    let highest : List ℕ = bigEndian bitsWidth (r .highest) in
+    omega (arith, length-append lowest (highest ++ (x ∷ [])), length-append highest (x ∷ []), bigEndian-length bitsWidth (r .lowest), bigEndian-length bitsWidth (r .highest))
 
 -- a field whose bits are four bytes has room, whatever its form
-field-fits : (form k x n : ℕ) → n < 256 ^ bitsWidth → FitsField (fieldOf form k x n)
+field-fits : (form k x n m : ℕ) → n < 256 ^ bitsWidth → m < 256 ^ bitsWidth → FitsField (fieldOf form k x n m)
 unfolding fieldOf
-field-fits zero k x n h = h
-field-fits (suc zero) k x n h = tt
-field-fits (suc (suc zero)) k x n h = tt
-field-fits (suc (suc (suc zero))) k x n h = h
-field-fits (suc (suc (suc (suc zero)))) k x n h = h
-field-fits (suc (suc (suc (suc (suc form))))) k x n h = tt
+field-fits zero k x n m h l = h
+field-fits (suc zero) k x n m h l = tt
+field-fits (suc (suc zero)) k x n m h l = tt
+field-fits (suc (suc (suc zero))) k x n m h l = h
+field-fits (suc (suc (suc (suc zero)))) k x n m h l = h
+field-fits (suc (suc (suc (suc (suc zero))))) k x n m h l = tt
+field-fits (suc (suc (suc (suc (suc (suc form)))))) k x n m h l = (h, l)
 
 -- forms 3 and 4
-sum-bytes : (form k x n : ℕ) → 3 ≤ form → form < 5 → fieldBytes (fieldOf form k x n) ≡ form ∷ x ∷ valueBytes (value k n)
+sum-bytes : (form k x n m : ℕ) → 3 ≤ form → form < 5 → fieldBytes (fieldOf form k x n m) ≡ form ∷ x ∷ valueBytes (value k n)
 unfolding fieldOf fieldBytes
-sum-bytes zero k x n l h = absurd (omega arith)
-sum-bytes (suc zero) k x n l h = absurd (omega arith)
-sum-bytes (suc (suc zero)) k x n l h = absurd (omega arith)
-sum-bytes (suc (suc (suc zero))) k x n l h = refl
-sum-bytes (suc (suc (suc (suc zero)))) k x n l h = refl
-sum-bytes (suc (suc (suc (suc (suc form))))) k x n l h = absurd (omega arith)
+sum-bytes zero k x n m l h = absurd (omega arith)
+sum-bytes (suc zero) k x n m l h = absurd (omega arith)
+sum-bytes (suc (suc zero)) k x n m l h = absurd (omega arith)
+sum-bytes (suc (suc (suc zero))) k x n m l h = refl
+sum-bytes (suc (suc (suc (suc zero)))) k x n m l h = refl
+sum-bytes (suc (suc (suc (suc (suc form))))) k x n m l h = absurd (omega arith)
 
-module _ (f : Field) (d : List ℕ) (at : ℕ) (h : at + sumSize ≤ length d) (small : f .bits < 256 ^ bitsWidth) where
+module _ (f : Field) (d : List ℕ) (at : ℕ) (h : at + rangeSize ≤ length d) (small : f .bits < 256 ^ bitsWidth) (less : f .highest < 256 ^ bitsWidth) where
   abbrev fieldValue : List ℕ
   fieldValue = valueBytes (value (f .kind) (f .bits))
 
   -- the bytes that were put are the field's
   is-put : (s e : List ℕ) (end : ℕ) → Puts d at s e end → s ≡ fieldBytes (fieldIs f) → PutField f d at e end
   unfolding fieldIs
-  is-put s e end p q = record { puts = puts-as d at s (fieldBytes (fieldIs f)) e end p q; fits = field-fits (f .form) (f .kind) (f .variable) (f .bits) small }
+  is-put s e end p q = record { puts = puts-as d at s (fieldBytes (fieldIs f)) e end p q; fits = field-fits (f .form) (f .kind) (f .variable) (f .bits) (f .highest) small less }
 
   pub put-actual : (e : List ℕ) (end : ℕ) → f .form ≡ 0 → Puts (set d at (f .form)) (at + formWidth) fieldValue e end → PutField f d at e end
   unfolding fieldIs fieldOf fieldBytes
@@ -103,13 +127,17 @@ module _ (f : Field) (d : List ℕ) (at : ℕ) (h : at + sumSize ≤ length d) (
   unfolding fieldIs
   put-sum e end l u p =
       is-put (f .form ∷ f .variable ∷ fieldValue) e end (puts-then d at (f .form ∷ f .variable ∷ []) _ (at + pastVariable) fieldValue e end (puts-two d at (f .form) (f .variable) (omega arith)) p (omega arith))
-      (sym (sum-bytes (f .form) (f .kind) (f .variable) (f .bits) l u))
+      (sym (sum-bytes (f .form) (f .kind) (f .variable) (f .bits) (f .highest) l u))
 
-  pub put-anonymous : 5 ≤ f .form → f .form < forms → PutField f d at (set (set d at (f .form)) (at + formWidth) (f .kind)) (at + anonymousSize)
+  pub put-anonymous : f .form ≡ 5 → PutField f d at (set (set d at (f .form)) (at + formWidth) (f .kind)) (at + anonymousSize)
   unfolding fieldIs fieldOf fieldBytes
-  put-anonymous l u =
-      let z : f .form ≡ 5 = omega arith in
-      is-put (f .form ∷ f .kind ∷ []) _ (at + anonymousSize) (puts-two d at (f .form) (f .kind) (omega arith)) (rw z)
+  put-anonymous z = is-put (f .form ∷ f .kind ∷ []) _ (at + anonymousSize) (puts-two d at (f .form) (f .kind) (omega arith)) (rw z)
+
+  pub put-ranged : (e : List ℕ) (end : ℕ) → 6 ≤ f .form → f .form < forms → Puts (set d at (f .form)) (at + formWidth) (rangeBytes f) e end → PutField f d at e end
+  unfolding fieldIs fieldOf fieldBytes valueBytes
+  put-ranged e end l u p =
+      let z : f .form ≡ 6 = omega arith in
+      is-put (f .form ∷ rangeBytes f) e end (puts-then d at (f .form ∷ []) _ (at + formWidth) (rangeBytes f) e end (puts-byte d at (f .form) (omega arith)) p (omega arith)) (rw z)
 
 -- ---- fields one after the other
 
@@ -140,7 +168,7 @@ fields-more fields i x d at e m f end h k p q =
 -- i fields are put
 pub record Putting (fields : List Field) (before : List ℕ) (at : ℕ) (after : List ℕ) (end i : ℕ) : Type 0 where
   pub same : length after ≡ length before
-  pub most : end ≤ at + i * sumSize
+  pub most : end ≤ at + i * rangeSize
   pub put : PutFields (take i fields) before at after end
 
 pub putting-start : (fields : List Field) (d : List ℕ) (at : ℕ) → Putting fields d at d at 0
@@ -155,7 +183,7 @@ putting-turn fields d at e m i x f end room six h l p q = record {
 }
 
 -- they have at most so many bytes
-pub fields-most : (fs : List Field) → length (flatMap fieldBytes (fieldsAre fs)) ≤ length fs * sumSize
+pub fields-most : (fs : List Field) → length (flatMap fieldBytes (fieldsAre fs)) ≤ length fs * rangeSize
 unfolding fieldsAre flatMap
 fields-most [] = omega arith
 fields-most (f ∷ fs) = omega (arith, length-append (fieldBytes (fieldIs f)) (flatMap fieldBytes (fieldsAre fs)), field-most (fieldIs f), fields-most fs)

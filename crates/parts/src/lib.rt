@@ -5,13 +5,13 @@ ghost use Prim.Native.Nat.{_+_, _≤_, _<_};
 ghost use lib.ListN.{length, take};
 ghost use lib.Dec.{T};
 ghost use Rattle.basis.specs.Lists.{all};
-ghost use Rattle.basis.specs.Sizes.{countWidth, mostFields, valueSize, sumSize, fieldsSize, operationSize};
+ghost use Rattle.basis.specs.Sizes.{formWidth, countWidth, mostFields, valueSize, rangeSize, fieldsSize, operationSize};
 ghost use Rattle.model.specs.Value.{value};
 ghost use Rattle.model.specs.Writing.{valueBytes};
 ghost use Rattle.statements.specs.Flat.{forms, hasForm};
 ghost use Rattle.parts.specs.Puts.{Puts};
 ghost use Rattle.writer.specs.Writer.{isHanded};
-ghost use Rattle.parts.specs.Fields.{PutField, PutFields};
+ghost use Rattle.parts.specs.Fields.{rangeBytes, PutField, PutFields};
 ghost use Rattle.parts.specs.Operations.{PutCounted, PutOperation};
 use statements::Field;
 use statements::Operation;
@@ -23,13 +23,16 @@ use words::COUNT_WIDTH;
 use words::FORM_WIDTH;
 use words::FORMAL;
 use words::FROM_AT;
+use words::HIGHEST_AT;
 use words::PAST_KIND;
 use words::PAST_TO;
 use words::PAST_VARIABLE;
+use words::RANGE_VARIABLE_AT;
 use words::REFERENCE;
 use words::TO_AT;
 use words::VALUE;
 use words::VALUE_BITS_AT;
+use words::VARIABLE_WIDTH;
 use words::put_space_number;
 use words::put4;
 
@@ -43,9 +46,20 @@ fn put_value(t: &mut [u8], at: usize, kind: u8, bits: u32) -> usize
     at + VALUE
 }
 
+// A range and its variable, from index at on: kind, lowest, highest, variable. The index after them.
+fn put_range(t: &mut [u8], at: usize, f: Field) -> usize
+    requires { ⌜ at + rangeSize ≤ length (now t) + formWidth ⌝ }
+    ensures { λ r. ⌜ Puts (now (t .entry)) at (rangeBytes f) (now (t .exit)) r ⌝ }
+{
+    put_value(t, at, f.kind, f.bits);
+    put4(t, at + HIGHEST_AT, f.highest);
+    t[at + RANGE_VARIABLE_AT] = f.variable;
+    at + RANGE_VARIABLE_AT + VARIABLE_WIDTH
+}
+
 // A field, from index at on: its form, then what the form has. The index after it.
 fn put_field(t: &mut [u8], at: usize, f: Field) -> usize
-    requires { ⌜ (f .form < forms) × (at + sumSize ≤ length (now t)) ⌝ }
+    requires { ⌜ (f .form < forms) × (at + rangeSize ≤ length (now t)) ⌝ }
     ensures { λ r. ⌜ PutField f (now (t .entry)) at (now (t .exit)) r ⌝ }
 {
     let form = f.form;
@@ -65,10 +79,11 @@ fn put_field(t: &mut [u8], at: usize, f: Field) -> usize
             t[at + FORM_WIDTH] = f.variable;
             put_value(t, at + PAST_VARIABLE, f.kind, f.bits)
         }
-        _ => {
+        5 => {
             t[at + FORM_WIDTH] = f.kind;
             at + ANONYMOUS
         }
+        _ => put_range(t, at + FORM_WIDTH, f),
     }
 }
 

@@ -10,7 +10,7 @@ use lib.Seq.{take-all, take-at, drop-at, drop-drop, length-take-le}
 use lib.Dec.{T, leb, eqb, leb→le, le→leb}
 use lib.Pow.{areBytes}
 use borrow.Author.Tests.{le-leb, lt-leb}
-use Rattle.basis.specs.Logic.{and-l, and-r, both, true-is}
+use Rattle.basis.specs.Logic.{and-l, and-r, both, true-is, same-test}
 use Rattle.basis.specs.Lists.{all, pairwise, zeros, pad, pieces, sameBytes}
 use Rattle.basis.specs.ListLaws.{Each, all-at, all-of, same-refl, same→eq}
 use Rattle.basis.specs.Numbers.{bigEndian, numberAt}
@@ -29,7 +29,7 @@ use Rattle.words.specs.ZeroLaws.{zerosAt→zeros, zeros→zerosAt}
 use Rattle.sections.specs.Rows.{Section, HasRows, unusedZero}
 use Rattle.sections.specs.RowLaws.{take-drop-take, number-written, number-of-row, pieces-at, pieces-wide, pieces-bytes, section-of, section-unused}
 use Rattle.sections.specs.Shapes.{entry, Same, holds-of, area-same, area-of, holds-rows}
-use Rattle.scans.specs.Tests.{ascends, ascends-within, ascends-rise, ascends-of, ascends-map, same-test, differ, all-map, pairwise-map}
+use Rattle.scans.specs.Tests.{ascends, ascends-within, ascends-rise, ascends-of, ascends-map, differ, all-map, pairwise-map}
 use Rattle.queue.specs.Queue.{Written, waitingShape, waitingOf, IsQueued}
 use Rattle.queue.specs.QueueLaws.{process-of}
 use Rattle.queue.specs.Legal.{sizeIn, bodyIn, bodyFits, rowLegal, earlier, inTime, otherProcess, queueLegal, inOrder}

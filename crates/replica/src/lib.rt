@@ -1,6 +1,7 @@
-// The functions for C: a replica of the tuple space in a buffer that the caller lends, and the writer of statements. `include/replica.h` says them in words.
+// The functions for C: a replica of the tuple space in a buffer that the caller lends, the writer of statements, and whether two templates can meet. `include/replica.h` says them in words.
 ghost use mathlib.Core.Path.{_≡_};
 ghost use Rattle.basis.specs.Sizes.{layoutNumber};
+ghost use Rattle.model.specs.Meeting.{canMeet};
 ghost use Rattle.calls.specs.Calls.{lent, answer, freshAnswer, takeCall, freshCall};
 ghost use Rattle.writer.specs.Writer.{writtenIs, beginOn, addOperation, addBranch};
 use statements::Operation;
@@ -69,4 +70,14 @@ pub extern "C" fn replica_branch(body: &mut [u8], fill: &mut usize, guard: Opera
     let added = additions::branch_at(body, filled, guard);
     *fill = added.fill;
     added.answer as u64
+}
+
+// ---- two templates: 1 or 0, 6 or 19
+
+// "Whether two templates can ever meet", each the bytes of one operation.
+#[no_mangle]
+pub extern "C" fn replica_can_meet(first: &[u8], second: &[u8]) -> u64
+    ensures { λ r. ⌜ r ≡ canMeet (now (first .entry)) (now (second .entry)) ⌝ }
+{
+    meeting::can_meet(first, second)
 }

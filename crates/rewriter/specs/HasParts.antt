@@ -12,7 +12,7 @@ use Rattle.basis.specs.Logic.{and-l, and-r, both}
 use Rattle.basis.specs.Lists.{all}
 use Rattle.basis.specs.Sizes.{mostFields}
 use Rattle.model.specs.Statement as model
-use Rattle.model.specs.Statement.{actual, formal, reference, sum, difference, anonymous, always, lookup, deposit, transfer, Branch, Statement}
+use Rattle.model.specs.Statement.{actual, formal, reference, sum, difference, anonymous, ranged, always, lookup, deposit, transfer, Branch, Statement}
 use Rattle.model.specs.Legal.{fieldsOf, legalBranch, legalStatement}
 use Rattle.statements.specs.declared.Field.{Field}
 use Rattle.statements.specs.declared.Operation.{Operation}
@@ -24,14 +24,15 @@ use Rattle.rewriter.specs.Additions.{Addition, operation, branch, additi
 
 -- the parts of a field; those that its form lacks are 0
 unfoldable pub fieldParts : model.Field → Field
-fieldParts (actual v) = record { form = 0; kind = v .kind; variable = 0; bits = v .bits }
-fieldParts (formal k x) = record { form = 1; kind = k; variable = x; bits = 0 }
-fieldParts (reference x) = record { form = 2; kind = 0; variable = x; bits = 0 }
-fieldParts (sum x v) = record { form = 3; kind = v .kind; variable = x; bits = v .bits }
-fieldParts (difference x v) = record { form = 4; kind = v .kind; variable = x; bits = v .bits }
-fieldParts (anonymous k) = record { form = 5; kind = k; variable = 0; bits = 0 }
+fieldParts (actual v) = record { form = 0; kind = v .kind; variable = 0; bits = v .bits; highest = 0 }
+fieldParts (formal k x) = record { form = 1; kind = k; variable = x; bits = 0; highest = 0 }
+fieldParts (reference x) = record { form = 2; kind = 0; variable = x; bits = 0; highest = 0 }
+fieldParts (sum x v) = record { form = 3; kind = v .kind; variable = x; bits = v .bits; highest = 0 }
+fieldParts (difference x v) = record { form = 4; kind = v .kind; variable = x; bits = v .bits; highest = 0 }
+fieldParts (anonymous k) = record { form = 5; kind = k; variable = 0; bits = 0; highest = 0 }
+fieldParts (ranged k r x) = record { form = 6; kind = k; variable = x; bits = r .lowest; highest = r .highest }
 
--- they are the field's, of one of the six forms
+-- they are the field's, of one of the seven forms
 parts-are : (f : model.Field) → (fieldIs (fieldParts f) ≡ f) × T (hasForm (fieldParts f))
 unfolding fieldIs fieldOf hasForm fieldParts
 parts-are (actual v) = (refl, tt)
@@ -40,10 +41,11 @@ parts-are (reference x) = (refl, tt)
 parts-are (sum x v) = (refl, tt)
 parts-are (difference x v) = (refl, tt)
 parts-are (anonymous k) = (refl, tt)
+parts-are (ranged k r x) = (refl, tt)
 
 -- room for six
 abbrev noField : Field
-noField = record { form = 0; kind = 0; variable = 0; bits = 0 }
+noField = record { form = 0; kind = 0; variable = 0; bits = 0; highest = 0 }
 
 unfoldable pub sixOf : List model.Field → List Field
 sixOf fs = map fieldParts fs ++ replicate (mostFields - length fs) noField

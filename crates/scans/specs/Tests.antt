@@ -22,11 +22,6 @@ pub refused : (t : Bool) → (T t → ⊥) → false ≡ t
 refused true h = absurd (h tt)
 refused false h = refl
 
--- two that hold together
-pub same-test : (a b : Bool) → (T a → T b) → (T b → T a) → a ≡ b
-same-test true b f g = sym (is-true b (f tt))
-same-test false b f g = refused b g
-
 -- one that holds and does not
 pub clash : (t r : Bool) → T t → r ≡ t → r ≡ false → ⊥
 clash true r h e f = true≢false (sym e ∙ f)

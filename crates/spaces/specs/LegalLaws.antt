@@ -10,7 +10,7 @@ use lib.Seq.{take-all, drop-at, drop-cons}
 use lib.Dec.{T, leb, eqb, eqb→eq, leb→le, le→leb, ltb→lt, lt→ltb}
 use lib.Pow.{areBytes}
 use borrow.Author.Tests.{eq-eqb, ne-eqb}
-use Rattle.basis.specs.Logic.{and-l, and-r, both, or-l, or-cases, true-is}
+use Rattle.basis.specs.Logic.{and-l, and-r, both, or-l, or-cases, true-is, same-test}
 use Rattle.basis.specs.Lists.{all, any, pairwise, zeros, pad, pieces, sameBytes}
 use Rattle.basis.specs.ListLaws.{Each, all-at, all-of, any-at, same-refl, same→eq}
 use Rattle.basis.specs.Numbers.{bigEndian, number, numberAt}
@@ -26,7 +26,7 @@ use Rattle.words.specs.WordLaws.{numberAt-1}
 use Rattle.sections.specs.Rows.{Section, HasRows, unusedZero}
 use Rattle.sections.specs.RowLaws.{pad-whole, number-written, number-of-row, pieces-wide, pieces-bytes, section-of, section-unused}
 use Rattle.sections.specs.Shapes.{Same, holds-of, area-same, area-of}
-use Rattle.scans.specs.Tests.{ascends, ascends-within, ascends-rise, ascends-of, ascends-map, refused, same-test}
+use Rattle.scans.specs.Tests.{ascends, ascends-within, ascends-rise, ascends-of, ascends-map, refused}
 use Rattle.spaces.specs.Spaces.{Small, spaceShape, spacesOf, IsListed, Rising}
 use Rattle.spaces.specs.Legal.{lower, zeroOpen, belowNext, spacesLegal, accessOk}
 

@@ -1,11 +1,11 @@
--- What a flat field binds: its variable, at its kind, if it is of form 1. Assumes nothing.
+-- What a flat field binds: its variable, at its kind, if it is of form 1 or 6. Assumes nothing.
 use mathlib.Core.Path.{_≡_, refl, sym, _∙_}
 use Prim.Native.Nat.{ℕ, zero, suc}
 use native.Mathlib.Omega.{arith}
 use mathlib.Core.Bool.{Bool, true, false}
 use mathlib.Core.Option.{none, some}
-use lib.Dec.{eqb}
-use borrow.Author.Tests.{ne-eqb}
+use lib.Dec.{leb}
+use borrow.Author.Tests.{le-leb}
 use Rattle.basis.specs.Choice.{provided}
 use Rattle.model.specs.Statement.{Binder, binderOf}
 use Rattle.statements.specs.Flat.{fieldOf, fieldIs}
@@ -15,19 +15,24 @@ use Rattle.statements.specs.declared.Field.{Field}
 abbrev pub binderIn : Field → Binder
 binderIn f = record { kind = f .kind; variable = f .variable }
 
-form-binds : (form k x n : ℕ) → provided (eqb form 1) (record { kind = k; variable = x }) ≡ binderOf (fieldOf form k x n)
-unfolding provided fieldOf binderOf
-form-binds zero k x n = refl
-form-binds (suc zero) k x n = refl
-form-binds (suc (suc zero)) k x n = refl
-form-binds (suc (suc (suc zero))) k x n = refl
-form-binds (suc (suc (suc (suc zero)))) k x n = refl
-form-binds (suc (suc (suc (suc (suc m))))) k x n = rw (ne-eqb (suc (suc (suc (suc (suc m))))) 1 (λ e. omega arith))
+-- it binds if it is of form 1
+pub formal-binds : (f : Field) → f .form ≡ 1 → provided true (binderIn f) ≡ binderOf (fieldIs f)
+unfolding fieldIs provided fieldOf binderOf
+formal-binds f e = rw e
 
--- it binds exactly if it is of form 1
-pub binder-is : (f : Field) → provided (eqb (f .form) 1) (binderIn f) ≡ binderOf (fieldIs f)
-unfolding fieldIs
-binder-is f = form-binds (f .form) (f .kind) (f .variable) (f .bits)
+-- or of form 6, the last, and else not
+pub last-binds : (f : Field) → (f .form ≡ 1 → ⊥) → provided (leb 6 (f .form)) (binderIn f) ≡ binderOf (fieldIs f)
+unfolding fieldIs provided fieldOf binderOf
+last-binds f n = go (f .form) n
+  where
+    go : (form : ℕ) → (form ≡ 1 → ⊥) → provided (leb 6 form) (binderIn f) ≡ binderOf (fieldOf form (f .kind) (f .variable) (f .bits) (f .highest))
+    go zero n = refl
+    go (suc zero) n = absurd (n refl)
+    go (suc (suc zero)) n = refl
+    go (suc (suc (suc zero))) n = refl
+    go (suc (suc (suc (suc zero)))) n = refl
+    go (suc (suc (suc (suc (suc zero))))) n = refl
+    go (suc (suc (suc (suc (suc (suc m)))))) n = rw (le-leb 6 (suc (suc (suc (suc (suc (suc m)))))) (omega arith))
 
 -- by the answer whether it binds
 module _ (f : Field) (r : Bool) (e : provided r (binderIn f) ≡ binderOf (fieldIs f)) where

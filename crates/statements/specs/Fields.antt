@@ -10,12 +10,12 @@ use lib.ListN.{length, drop, getD}
 use lib.Dec.{leb, ltb}
 use borrow.Author.Tests.{lt-ltb, le-ltb, le-leb, lt-leb}
 use Rattle.basis.specs.Numbers.{numberAt}
-use Rattle.basis.specs.Sizes.{formWidth, kindWidth, variableWidth, bitsWidth, valueBitsAt, valueSize, actualSize, formalSize, referenceSize, sumSize, anonymousSize, sumBitsAt}
-use Rattle.model.specs.Value.{Value, value}
-use Rattle.model.specs.Statement.{Field, actual, formal, reference, sum, difference, anonymous}
-use Rattle.model.specs.Reading.{Reader, _>>=_, refuse, byte, chosenBy, fieldValue, actualField, formalField, referenceField, sumField, anonymousField, field}
+use Rattle.basis.specs.Sizes.{formWidth, kindWidth, variableWidth, bitsWidth, valueBitsAt, valueSize, actualSize, formalSize, referenceSize, sumSize, anonymousSize, rangeSize, sumBitsAt, highestAt, rangeVariableAt}
+use Rattle.model.specs.Value.{Value, value, range}
+use Rattle.model.specs.Statement.{Field, actual, formal, reference, sum, difference, anonymous, ranged}
+use Rattle.model.specs.Reading.{Reader, _>>=_, refuse, byte, natural, chosenBy, fieldValue, actualField, formalField, referenceField, sumField, anonymousField, rangedField, field}
 use Rattle.statements.specs.At.{which, readAt, found, found-some, found-none, some-readAt, none-readAt}
-use Rattle.statements.specs.Fixed.{Fixed, fixed-byte, fixed-last, fixed-then, fixed-as, fixed-value}
+use Rattle.statements.specs.Fixed.{Fixed, fixed-byte, fixed-natural, fixed-last, fixed-then, fixed-as, fixed-value}
 
 -- the bytes of a field of a form, its form byte included; 0: there is no such form
 unfoldable pub widthOf : ℕ → ℕ
@@ -27,6 +27,7 @@ widthOf form =
     ∷ sumSize
     ∷ sumSize
     ∷ anonymousSize
+    ∷ rangeSize
     ∷ [])
     form 0
 
@@ -39,13 +40,14 @@ fieldAfter form b at =
     ∷ reference (getD b at 0)
     ∷ sum (getD b at 0) (value (getD b (at + variableWidth) 0) (numberAt (at + sumBitsAt) bitsWidth b))
     ∷ difference (getD b at 0) (value (getD b (at + variableWidth) 0) (numberAt (at + sumBitsAt) bitsWidth b))
+    ∷ anonymous (getD b at 0)
     ∷ [])
-    form (anonymous (getD b at 0))
+    form (ranged (getD b at 0) (range (numberAt (at + valueBitsAt) bitsWidth b) (numberAt (at + highestAt) bitsWidth b)) (getD b (at + rangeVariableAt) 0))
 
 unfoldable pub fieldParts : List ℕ → ℕ → Field
 fieldParts b at = fieldAfter (getD b at 0) b (at + formWidth)
 
--- a form byte is there, it is one of the six, and the bytes of its form are there
+-- a form byte is there, it is one of the seven, and the bytes of its form are there
 unfoldable pub fieldStands : List ℕ → ℕ → Bool
 fieldStands b at = ltb at (length b) && ltb 0 (widthOf (getD b at 0)) && leb (at + widthOf (getD b at 0)) (length b)
 
@@ -56,7 +58,7 @@ fieldEnd b at = cond (fieldStands b at) (at + widthOf (getD b at 0)) 0
 -- ---- the reader of a field, at a position
 
 abbrev rows : List (Reader Field)
-rows = actualField ∷ formalField ∷ referenceField ∷ sumField sum ∷ sumField difference ∷ anonymousField ∷ []
+rows = actualField ∷ formalField ∷ referenceField ∷ sumField sum ∷ sumField difference ∷ anonymousField ∷ rangedField ∷ []
 
 fixed-sum : (made : ℕ → Value → Field) → Fixed (sumField made) (sumSize - formWidth) (λ b at. made (getD b at 0) (value (getD b (at + variableWidth) 0) (numberAt (at + sumBitsAt) bitsWidth b)))
 unfolding sumField
@@ -65,6 +67,22 @@ fixed-sum made =
     (fixed-then byte _ variableWidth valueSize (λ b at. getD b at 0) (λ x b at. made x (value (getD b at 0) (numberAt (at + valueBitsAt) bitsWidth b))) fixed-byte
     (λ x. fixed-last fieldValue (made x) valueSize (λ b at. value (getD b at 0) (numberAt (at + valueBitsAt) bitsWidth b)) fixed-value))
     (λ b at. let e : at + variableWidth + valueBitsAt ≡ at + sumBitsAt = omega arith in rw e)
+
+fixed-ranged : Fixed rangedField (rangeSize - formWidth)
+    (λ b at. ranged (getD b at 0) (range (numberAt (at + valueBitsAt) bitsWidth b) (numberAt (at + highestAt) bitsWidth b)) (getD b (at + rangeVariableAt) 0))
+unfolding rangedField
+fixed-ranged =
+    fixed-as _ (rangeSize - formWidth) _ _
+    (fixed-then byte _ kindWidth (bitsWidth + (bitsWidth + variableWidth)) (λ b at. getD b at 0)
+    (λ k b at. ranged k (range (numberAt at bitsWidth b) (numberAt (at + bitsWidth) bitsWidth b)) (getD b (at + bitsWidth + bitsWidth) 0)) fixed-byte
+    (λ k. fixed-then (natural bitsWidth) _ bitsWidth (bitsWidth + variableWidth) (λ b at. numberAt at bitsWidth b)
+    (λ n b at. ranged k (range n (numberAt at bitsWidth b)) (getD b (at + bitsWidth) 0)) (fixed-natural bitsWidth (omega arith))
+    (λ n. fixed-then (natural bitsWidth) _ bitsWidth variableWidth (λ b at. numberAt at bitsWidth b) (λ m b at. ranged k (range n m) (getD b at 0)) (fixed-natural bitsWidth (omega arith))
+    (λ m. fixed-last byte (ranged k (range n m)) variableWidth (λ b at. getD b at 0) fixed-byte))))
+    (λ b at.
+    let e : at + kindWidth + bitsWidth ≡ at + highestAt = omega arith in
+    let f : at + highestAt + bitsWidth ≡ at + rangeVariableAt = omega arith in
+    rw (e, f))
 
 -- what stands after a form byte has the form's width
 fixed-after : (form : ℕ) → 0 < widthOf form → Fixed (getD rows form refuse) (widthOf form - formWidth) (fieldAfter form)
@@ -77,7 +95,8 @@ fixed-after (suc (suc zero)) h = fixed-last byte reference variableWidth (λ b a
 fixed-after (suc (suc (suc zero))) h = fixed-sum sum
 fixed-after (suc (suc (suc (suc zero)))) h = fixed-sum difference
 fixed-after (suc (suc (suc (suc (suc zero))))) h = fixed-last byte anonymous kindWidth (λ b at. getD b at 0) fixed-byte
-fixed-after (suc (suc (suc (suc (suc (suc n)))))) h = absurd (omega arith)
+fixed-after (suc (suc (suc (suc (suc (suc zero)))))) h = fixed-ranged
+fixed-after (suc (suc (suc (suc (suc (suc (suc n))))))) h = absurd (omega arith)
 
 no-row : (form : ℕ) → widthOf form ≡ 0 → getD rows form refuse ≡ refuse
 unfolding widthOf
@@ -87,7 +106,8 @@ no-row (suc (suc zero)) h = absurd (omega arith)
 no-row (suc (suc (suc zero))) h = absurd (omega arith)
 no-row (suc (suc (suc (suc zero)))) h = absurd (omega arith)
 no-row (suc (suc (suc (suc (suc zero))))) h = absurd (omega arith)
-no-row (suc (suc (suc (suc (suc (suc n)))))) h = refl
+no-row (suc (suc (suc (suc (suc (suc zero)))))) h = absurd (omega arith)
+no-row (suc (suc (suc (suc (suc (suc (suc n))))))) h = refl
 
 -- by the forms of sums, and past the last form
 pub width-sum : (form : ℕ) → 3 ≤ form → form < 5 → widthOf form ≡ sumSize
@@ -99,7 +119,7 @@ width-sum (suc (suc (suc zero))) l h = refl
 width-sum (suc (suc (suc (suc zero)))) l h = refl
 width-sum (suc (suc (suc (suc (suc n))))) l h = absurd (omega arith)
 
-pub width-past : (form : ℕ) → 5 < form → widthOf form ≡ 0
+pub width-past : (form : ℕ) → 6 < form → widthOf form ≡ 0
 unfolding widthOf
 width-past zero h = absurd (omega arith)
 width-past (suc zero) h = absurd (omega arith)
@@ -107,7 +127,16 @@ width-past (suc (suc zero)) h = absurd (omega arith)
 width-past (suc (suc (suc zero))) h = absurd (omega arith)
 width-past (suc (suc (suc (suc zero)))) h = absurd (omega arith)
 width-past (suc (suc (suc (suc (suc zero))))) h = absurd (omega arith)
-width-past (suc (suc (suc (suc (suc (suc n)))))) h = refl
+width-past (suc (suc (suc (suc (suc (suc zero)))))) h = absurd (omega arith)
+width-past (suc (suc (suc (suc (suc (suc (suc n))))))) h = refl
+
+-- the last form that has a width is that of ranges
+pub width-range : (form : ℕ) → 6 ≤ form → 0 < widthOf form → widthOf form ≡ rangeSize
+width-range form l h = go (which form 6)
+  where
+    go : (form ≤ 6) ⊎ (6 < form) → widthOf form ≡ rangeSize
+    go (inl k) = let e : form ≡ 6 = omega arith in rw e (unfold widthOf in refl)
+    go (inr k) = absurd (omega (arith, width-past form k))
 
 -- every form has a byte after it
 pub width-more : (form : ℕ) → 0 < widthOf form → formWidth < widthOf form
@@ -118,7 +147,8 @@ width-more (suc (suc zero)) h = omega arith
 width-more (suc (suc (suc zero))) h = omega arith
 width-more (suc (suc (suc (suc zero)))) h = omega arith
 width-more (suc (suc (suc (suc (suc zero))))) h = omega arith
-width-more (suc (suc (suc (suc (suc (suc n)))))) h = absurd (omega arith)
+width-more (suc (suc (suc (suc (suc (suc zero)))))) h = omega arith
+width-more (suc (suc (suc (suc (suc (suc (suc n))))))) h = absurd (omega arith)
 
 -- ---- the field at a position
 

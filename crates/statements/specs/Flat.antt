@@ -8,9 +8,9 @@ use lib.ListN.{length, take, getD}
 use lib.Dec.{T, leb, ltb}
 use Rattle.basis.specs.Lists.{all}
 use Rattle.basis.specs.Sizes.{mostFields}
-use Rattle.model.specs.Value.{value}
+use Rattle.model.specs.Value.{value, range}
 use Rattle.model.specs.Statement as model
-use Rattle.model.specs.Statement.{actual, formal, reference, sum, difference, anonymous, always, lookup, deposit, transfer}
+use Rattle.model.specs.Statement.{actual, formal, reference, sum, difference, anonymous, ranged, always, lookup, deposit, transfer}
 use Rattle.model.specs.Legal.{fieldsOf}
 use Rattle.model.specs.Reading.{operation}
 use Rattle.statements.specs.At.{readAt, passed, found}
@@ -24,20 +24,20 @@ use Rattle.statements.specs.declared.OperationRead.{OperationRead}
 abbrev pub codes : ℕ
 codes = 8
 
--- "Fields: form 0 .. Form 5"
+-- "Fields: form 0 .. Form 5", and form 6
 abbrev pub forms : ℕ
-forms = 6
+forms = 7
 
--- a field of one of the six forms
+-- a field of one of the seven forms
 unfoldable pub hasForm : Field → Bool
 hasForm f = ltb (f .form) forms
 
 -- a field of a form, of its parts
-unfoldable pub fieldOf : (form kind variable bits : ℕ) → model.Field
-fieldOf form k x n = getD (actual (value k n) ∷ formal k x ∷ reference x ∷ sum x (value k n) ∷ difference x (value k n) ∷ []) form (anonymous k)
+unfoldable pub fieldOf : (form kind variable bits highest : ℕ) → model.Field
+fieldOf form k x n m = getD (actual (value k n) ∷ formal k x ∷ reference x ∷ sum x (value k n) ∷ difference x (value k n) ∷ anonymous k ∷ []) form (ranged k (range n m) x)
 
 unfoldable pub fieldIs : Field → model.Field
-fieldIs f = fieldOf (f .form) (f .kind) (f .variable) (f .bits)
+fieldIs f = fieldOf (f .form) (f .kind) (f .variable) (f .bits) (f .highest)
 
 unfoldable pub fieldsAre : List Field → List model.Field
 fieldsAre fs = map fieldIs fs
@@ -69,7 +69,7 @@ fieldsRead n r = found (r .end) (fieldsAre (take n (r .fields)))
 unfoldable pub readIs : OperationRead → Option (model.Operation × ℕ)
 readIs r = found (r .end) (operationIs (r .operation))
 
--- an operation was read so: its parts have one of the eight codes, and at most as many fields as there is room for, of the six forms
+-- an operation was read so: its parts have one of the eight codes, and at most as many fields as there is room for, of the seven forms
 pub record Reads (r : OperationRead) (o : Option (model.Operation × ℕ)) : Type 0 where
   pub is : readIs r ≡ o
   pub code : r .operation .code < codes

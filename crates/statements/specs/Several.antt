@@ -82,7 +82,7 @@ suffix-field s rest a e = go (field-at s 0)
     go (absent n f) = absurd (Option·none-ne-some (a, rest) (sym f ∙ e))
     go (present h) = (0 + widthOf (getD s 0 0), ap (λ (r : model.Field × List ℕ). r .1) (sym (Option·some-injective _ (a, rest) (sym (field-there s 0 (h .form) (h .fits)) ∙ e))))
 
--- i of so many fields are read, up to a position; all have one of the six forms
+-- i of so many fields are read, up to a position; all have one of the seven forms
 pub record Underway (b : List ℕ) (at count : ℕ) (fields : List Field) (end i : ℕ) : Type 0 where
   pub few : i ≤ count
   pub past : 0 < end

@@ -22,8 +22,11 @@ use words::CODE_WIDTH;
 use words::COUNT_WIDTH;
 use words::FORM_WIDTH;
 use words::FORMAL;
+use words::HIGHEST_AT;
 use words::KIND_WIDTH;
 use words::MOST_FIELDS;
+use words::RANGE;
+use words::RANGE_VARIABLE_AT;
 use words::REFERENCE;
 use words::SPACE_WIDTH;
 use words::SPACES_WIDTH;
@@ -35,7 +38,7 @@ use words::size;
 use words::space_number;
 use words::word4;
 
-// Codes: 0 true, 1 to 5 (out) name a space, 6 and 7 two; fields have the forms 0 to 5.
+// Codes: 0 true, 1 to 5 (out) name a space, 6 and 7 two; fields have the forms 0 to 6.
 pub const TRUE: u8 = 0;
 
 pub const OUT: u8 = 5;
@@ -44,22 +47,26 @@ pub const TWO_SPACES: u8 = 6;
 
 pub const CODES: u8 = 8;
 
-pub const FORMS: u8 = 6;
+pub const FORMS: u8 = 7;
 
-// A field: its form, and the kind, variable and four bytes of a value that the form has; parts that it lacks are 0.
+// A field: its form, and the kind, variable and four bytes of a value that the form has, of form 6 the lowest and the highest; parts that it lacks are 0.
 #[repr(C)]
 pub struct Field {
     pub form: u8,
     pub kind: u8,
     pub variable: u8,
     pub bits: u32,
+    pub highest: u32,
 }
 
 // Whether a field binds: its variable, at its kind.
 pub fn binds(f: Field) -> bool
     ensures { λ r. ⌜ provided r (binderIn f) ≡ binderOf (fieldIs f) ⌝ }
 {
-    f.form == 1
+    if f.form == 1 {
+        return true;
+    }
+    6 <= f.form
 }
 
 // A field that was read, and the position after it; 0: there is none.
@@ -90,16 +97,24 @@ pub struct OperationRead {
     pub operation: Operation,
 }
 
+// A field of a form that has no highest value.
+fn plain(form: u8, kind: u8, variable: u8, bits: u32) -> Field
+    ensures { λ r. ⌜ r ≡ record { form = form; kind = kind; variable = variable; bits = bits; highest = 0 } ⌝ }
+{
+    Field {
+        form,
+        kind,
+        variable,
+        bits,
+        highest: 0,
+    }
+}
+
 // A field with no part.
 fn no_field() -> Field
     ensures { λ r. ⌜ T (hasForm r) ⌝ }
 {
-    Field {
-        form: 0,
-        kind: 0,
-        variable: 0,
-        bits: 0,
-    }
+    plain(0, 0, 0, 0)
 }
 
 // The bytes of a field of a form, its form byte included; 0: there is no such form.
@@ -112,6 +127,7 @@ fn field_width(form: u8) -> usize
         2 => REFERENCE,
         3 | 4 => SUM,
         5 => ANONYMOUS,
+        6 => RANGE,
         _ => 0,
     }
 }
@@ -142,40 +158,27 @@ fn field_parts(b: &[u8], at: usize) -> Field
     let from = at + FORM_WIDTH;
     let first = b[from];
     match form {
-        0 => Field {
+        0 => plain(form, first, 0, word4(b, from + VALUE_BITS_AT)),
+        1 => plain(form, first, b[from + KIND_WIDTH], 0),
+        2 => plain(form, 0, first, 0),
+        3 | 4 => plain(
             form,
-            kind: first,
-            variable: 0,
-            bits: word4(b, from + VALUE_BITS_AT),
-        },
-        1 => Field {
-            form,
-            kind: first,
-            variable: b[from + KIND_WIDTH],
-            bits: 0,
-        },
-        2 => Field {
-            form,
-            kind: 0,
-            variable: first,
-            bits: 0,
-        },
-        3 | 4 => Field {
-            form,
-            kind: b[from + VARIABLE_WIDTH],
-            variable: first,
-            bits: word4(b, from + SUM_BITS_AT),
-        },
+            b[from + VARIABLE_WIDTH],
+            first,
+            word4(b, from + SUM_BITS_AT),
+        ),
+        5 => plain(form, first, 0, 0),
         _ => Field {
             form,
             kind: first,
-            variable: 0,
-            bits: 0,
+            variable: b[from + RANGE_VARIABLE_AT],
+            bits: word4(b, from + VALUE_BITS_AT),
+            highest: word4(b, from + HIGHEST_AT),
         },
     }
 }
 
-// The field at a position: form 0, kind, value; 1, kind, variable; 2, variable; 3 and 4, variable, kind, value; 5, kind.
+// The field at a position: form 0, kind, value; 1, kind, variable; 2, variable; 3 and 4, variable, kind, value; 5, kind; 6, kind, lowest, highest, variable.
 pub fn read_field(b: &[u8], at: usize) -> FieldRead
     ensures { λ r. ⌜ (fieldRead r ≡ readAt field (now (b .entry)) at) × T (hasForm (r .field)) ⌝ }
 {

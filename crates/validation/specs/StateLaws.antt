@@ -8,7 +8,7 @@ use lib.ListN.{length, getD}
 use lib.Dec.{T, leb, eqb, leb→le, eqb→eq}
 use lib.Pow.{areBytes}
 use borrow.Author.Tests.{eq-eqb}
-use Rattle.basis.specs.Logic.{and-l, and-r, both, true-is}
+use Rattle.basis.specs.Logic.{and-l, and-r, both, true-is, same-test}
 use Rattle.basis.specs.Lists.{all, pairwise, sameBytes}
 use Rattle.basis.specs.ListLaws.{all-at, all-of, all-both, same-refl, same→eq}
 use Rattle.basis.specs.Sizes.{mostSpaces, mostTuples, mostWaiting, spaceSize, tupleSize, waitingSize, spacesSize, tuplesSize, waitingAllSize, stateSize}
@@ -20,7 +20,7 @@ use Rattle.model.specs.ValidLaws.{valid-counts, valid-tuples, valid-spaces-rise
 use Rattle.layout.specs.States.{spaceBytes, tupleBytes, waitingBytes, area, encode, decode}
 use Rattle.layout.specs.IsState.{isState}
 use Rattle.layout.specs.StateLaws.{state-encode, state-valid}
-use Rattle.scans.specs.Tests.{refused, same-test}
+use Rattle.scans.specs.Tests.{refused}
 use Rattle.header.specs.Rows.{spacesPart, waitingPart, spacesLent, tuplesLent, queueLent}
 use Rattle.header.specs.Whole.{headerLegal}
 use Rattle.header.specs.WholeLaws.{spaces-said, tuples-said, waiting-said, part-long, part-bytes, Says, says-same, same-says, debts-fit, Header, legal-header, header-legal}

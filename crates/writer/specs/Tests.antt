@@ -39,7 +39,7 @@ forms-miss (x ∷ fields) i zero d h k f = absurd (omega arith)
 forms-miss (x ∷ fields) zero (suc n) d h k f = rw (le-ltb (x .form) forms f)
 forms-miss (x ∷ fields) (suc i) (suc n) d h k f = rw (← forms-miss fields i n d (omega arith) (omega arith) f, and-false (hasForm x))
 
--- each has one of the six
+-- each has one of the seven
 pub forms-at : (fields : List Field) (i n : ℕ) (d : Field) → T (all hasForm (take n fields)) → i < n → i < length fields → getD fields i d .form < forms
 unfolding all hasForm
 forms-at [] i n d t h k = absurd (omega arith)
@@ -66,7 +66,7 @@ module _ (o : Operation) where
   unfolding isHanded
   handed-forms r n h m e = e ∙ rw (ne-eqb (o .code) trueCode n, lt-ltb (o .code) codes h, le-leb (o .count) mostFields m)
 
-  -- parts of one of the eight codes, with at most six fields of the six forms, are an operation
+  -- parts of one of the eight codes, with at most six fields of the seven forms, are an operation
   pub parts-handed : o .code < codes → o .count ≤ mostFields → T (all hasForm (take (o .count) (o .fields))) → handed o ≡ some (operationIs o)
   unfolding handed isHanded provided
   parts-handed h m t =

@@ -26,7 +26,7 @@ trueCode = 0
 abbrev pub twoSpaces : ℕ
 twoSpaces = 6
 
--- parts are an operation: one of the eight codes and, but for true, which has no more parts, at most six fields of the six forms
+-- parts are an operation: one of the eight codes and, but for true, which has no more parts, at most six fields of the seven forms
 unfoldable pub isHanded : Operation → Bool
 isHanded o = eqb (o .code) trueCode || (ltb (o .code) codes && leb (o .count) mostFields && all hasForm (take (o .count) (o .fields)))
 

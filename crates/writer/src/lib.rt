@@ -23,7 +23,7 @@ pub struct Added {
     pub fill: usize,
 }
 
-// So many fields are each of one of the six forms.
+// So many fields are each of one of the seven forms.
 fn forms_ok(op: Operation) -> bool
     requires { ⌜ op .count ≤ mostFields ⌝ }
     ensures { λ r. ⌜ r ≡ all hasForm (take (op .count) (op .fields)) ⌝ }
@@ -41,7 +41,7 @@ fn forms_ok(op: Operation) -> bool
     true
 }
 
-// Whether parts are an operation: one of the eight codes and, but for true, at most six fields of the six forms. Its
+// Whether parts are an operation: one of the eight codes and, but for true, at most six fields of the seven forms. Its
 // spaces are space numbers whatever they are.
 pub fn is_handed(op: Operation) -> bool
     ensures { λ r. ⌜ r ≡ isHanded op ⌝ }

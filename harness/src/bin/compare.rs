@@ -1,8 +1,9 @@
-//! Compares the library with the second implementation on generated calls and event lists.
+//! Compares the library with the second implementation on generated calls, event lists and pairs of templates.
 //!
-//!     compare [CALLS [LISTS [SEED]]]
+//!     compare [CALLS [LISTS [SEED [PAIRS]]]]
 //!     compare --stream SEED NUMBER
 //!     compare --list SEED NUMBER
+//!     compare --pairs SEED NUMBER
 //!
 //! Prints what was reached. Fails at the first difference, where a cell that can occur stays empty, where
 //! under half of the calls take their record, or where under a quarter end in outcome 0 of a statement.
@@ -10,6 +11,7 @@
 use harness::caller::Caller;
 use harness::events::{self, Counts, KINDS};
 use harness::library::LIBRARY;
+use harness::meetings::{self, Asker, BATCH};
 use harness::streams;
 use reference::generate::cells::{impossible, missing};
 use reference::generate::coverage::Coverage;
@@ -19,14 +21,25 @@ use std::thread;
 
 const CALLS: u64 = 310_000;
 const LISTS: u64 = 2_100;
+const PAIRS: u64 = 60_000;
 const SEED: u64 = 1;
-const USAGE: &str = "usage: compare [CALLS [LISTS [SEED]]] | --stream SEED NUMBER | --list SEED NUMBER";
+const USAGE: &str = "usage: compare [CALLS [LISTS [SEED [PAIRS]]]] | --stream SEED NUMBER | --list SEED NUMBER \
+    | --pairs SEED NUMBER";
 
-/// What all threads share: the next stream and list, and how far they are.
+/// How much there is to do at least.
+#[derive(Clone, Copy)]
+struct Wanted {
+    calls: u64,
+    lists: u64,
+    pairs: u64,
+}
+
+/// What all threads share: the next stream, list and batch of pairs, and how far they are.
 #[derive(Default)]
 struct Progress {
     stream: AtomicU64,
     list: AtomicU64,
+    batch: AtomicU64,
     calls: AtomicU64,
     failed: AtomicBool,
 }
@@ -38,6 +51,8 @@ struct Reached {
     counts: Counts,
     lists: usize,
     events: usize,
+    meetings: Coverage,
+    pairs: u64,
 }
 
 impl Reached {
@@ -48,22 +63,32 @@ impl Reached {
         }
         self.lists += other.lists;
         self.events += other.events;
+        self.meetings.merge(&other.meetings);
+        self.pairs += other.pairs;
     }
 }
 
-/// Works through lists and streams until there are enough of both.
-fn work(seed: u64, calls: u64, lists: u64, progress: &Progress) -> Result<Reached, String> {
+/// Works through lists, pairs and streams until there are enough of each.
+fn work(seed: u64, wanted: Wanted, progress: &Progress) -> Result<Reached, String> {
     let mut reached = Reached::default();
-    let mut caller = Caller::new(LIBRARY);
+    let (mut caller, mut asker) = (Caller::new(LIBRARY), Asker::new(meetings::library));
     while !progress.failed.load(Relaxed) {
         let number = progress.list.fetch_add(1, Relaxed);
-        if number >= lists {
+        if number >= wanted.lists {
             break;
         }
         reached.events += events::run(seed, number, &mut caller, &mut reached.counts)?;
         reached.lists += 1;
     }
-    while !progress.failed.load(Relaxed) && progress.calls.load(Relaxed) < calls {
+    while !progress.failed.load(Relaxed) {
+        let number = progress.batch.fetch_add(1, Relaxed);
+        if number * BATCH >= wanted.pairs {
+            break;
+        }
+        meetings::run(seed, number, &mut asker, &mut reached.meetings)?;
+        reached.pairs += BATCH;
+    }
+    while !progress.failed.load(Relaxed) && progress.calls.load(Relaxed) < wanted.calls {
         let number = progress.stream.fetch_add(1, Relaxed);
         let before = reached.coverage.calls;
         streams::run(seed, number, &mut caller, &mut reached.coverage)?;
@@ -73,12 +98,12 @@ fn work(seed: u64, calls: u64, lists: u64, progress: &Progress) -> Result<Reache
 }
 
 /// Runs a thread for each processor; the first failure ends them all.
-fn compare(seed: u64, calls: u64, lists: u64) -> Result<Reached, String> {
+fn compare(seed: u64, wanted: Wanted) -> Result<Reached, String> {
     let progress = Progress::default();
     let count = thread::available_parallelism().map_or(1, usize::from);
     thread::scope(|scope| {
         let worker = || {
-            let result = work(seed, calls, lists, &progress);
+            let result = work(seed, wanted, &progress);
             progress.failed.fetch_or(result.is_err(), Relaxed);
             result
         };
@@ -92,7 +117,7 @@ fn compare(seed: u64, calls: u64, lists: u64) -> Result<Reached, String> {
 }
 
 fn print(reached: &Reached) {
-    for (cell, count) in &reached.coverage.cells {
+    for (cell, count) in reached.coverage.cells.iter().chain(&reached.meetings.cells) {
         println!("{cell:45} {count:9}");
     }
     for (kind, count) in &reached.counts {
@@ -100,6 +125,7 @@ fn print(reached: &Reached) {
     }
     let Coverage { calls, taken, done, .. } = reached.coverage;
     println!("{} event lists, {} events", reached.lists, reached.events);
+    println!("{} pairs of templates", reached.pairs);
     println!("{calls} calls, {taken} take their record, {done} end in outcome 0 of a statement");
 }
 
@@ -108,6 +134,7 @@ fn faults(reached: &Reached) -> Vec<String> {
     let Coverage { calls, taken, done, .. } = reached.coverage;
     let mut faults: Vec<String> = Vec::new();
     faults.extend(missing(&reached.coverage).iter().map(|cell| format!("never reached: {cell}")));
+    faults.extend(meetings::missing(&reached.meetings).iter().map(|cell| format!("never reached: {cell}")));
     faults.extend(impossible(&reached.coverage).iter().map(|cell| format!("cannot occur: {cell}")));
     let empty = KINDS.iter().filter(|kind| !reached.counts.contains_key(*kind));
     faults.extend(empty.map(|kind| format!("never in a list: {kind}")));
@@ -120,9 +147,9 @@ fn faults(reached: &Reached) -> Vec<String> {
     faults
 }
 
-fn whole(calls: u64, lists: u64, seed: u64) -> Result<(), String> {
+fn whole(seed: u64, wanted: Wanted) -> Result<(), String> {
     println!("seed {seed}");
-    let reached = compare(seed, calls, lists)?;
+    let reached = compare(seed, wanted)?;
     print(&reached);
     let faults = faults(&reached);
     if faults.is_empty() {
@@ -141,9 +168,15 @@ fn run(words: &[String]) -> Result<(), String> {
         (Some("--list"), &[seed, number]) => {
             events::run(seed, number, &mut caller, &mut Counts::new()).map(|_| ())
         }
-        (_, numbers) if numbers.len() == words.len() && numbers.len() < 4 => {
+        (Some("--pairs"), &[seed, number]) => {
+            meetings::run(seed, number, &mut Asker::new(meetings::library), &mut Coverage::default())
+        }
+        (_, numbers) if numbers.len() == words.len() && numbers.len() < 5 => {
             let given = |at: usize, default| numbers.get(at).copied().unwrap_or(default);
-            whole(given(0, CALLS), given(1, LISTS), given(2, SEED))
+            whole(
+                given(2, SEED),
+                Wanted { calls: given(0, CALLS), lists: given(1, LISTS), pairs: given(3, PAIRS) },
+            )
         }
         _ => Err(USAGE.to_string()),
     }

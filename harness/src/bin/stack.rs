@@ -1,8 +1,9 @@
-//! Prints the bytes of stack that calls use: fresh state, rows of the benchmark, generated streams, the writer.
+//! Prints the bytes of stack that calls use: fresh state, rows of the benchmark, generated streams, the writer, pairs
+//! of templates.
 //!
 //!     stack [STREAMS]
 
-use harness::measured::{fresh, generated, rows, writer};
+use harness::measured::{fresh, generated, meetings, rows, writer};
 
 fn main() {
     let streams = std::env::args().nth(1).and_then(|word| word.parse().ok()).unwrap_or(1_000);
@@ -12,4 +13,5 @@ fn main() {
     }
     println!("{:6}  most of {streams} generated streams", generated(1, streams));
     println!("{:6}  most of {} chains of the writer", writer(1, streams / 10), streams / 10);
+    println!("{:6}  most of {streams} pairs of templates", meetings(1, streams));
 }

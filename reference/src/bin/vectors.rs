@@ -1,8 +1,10 @@
 //! Prints test vectors. Usage: vectors SEED STREAMS RECORDS [--coverage]
 //! or, for matches alone: vectors --matches SEED COUNT [--coverage]
+//! or, for pairs of templates: vectors --meetings SEED COUNT [--coverage]
 
 use reference::generate::coverage::Coverage;
 use reference::generate::matches::{Match, Matches};
+use reference::generate::meetings::{Meeting, Meetings};
 use reference::generate::{Step, Stream};
 use reference::layout::tuple_entry;
 use reference::statement::operation_bytes;
@@ -50,6 +52,10 @@ fn match_line(one: &Match) -> String {
     format!("match {operation} {bound} {tuple} {}", one.answer().number())
 }
 
+fn meeting_line(one: &Meeting) -> String {
+    format!("meet {} {} {}", hex(&one.first), hex(&one.second), one.answer())
+}
+
 fn print_streams(coverage: &mut Coverage, seed: u64, streams: u64, records: u64) -> io::Result<()> {
     let mut out = io::BufWriter::new(io::stdout().lock());
     for number in 0..streams {
@@ -75,6 +81,17 @@ fn print_matches(coverage: &mut Coverage, seed: u64, count: u64) -> io::Result<(
     out.flush()
 }
 
+fn print_meetings(coverage: &mut Coverage, seed: u64, count: u64) -> io::Result<()> {
+    let mut out = io::BufWriter::new(io::stdout().lock());
+    let mut meetings = Meetings::new(seed);
+    for _ in 0..count {
+        let one = meetings.make();
+        coverage.add_meeting(&one);
+        writeln!(out, "{}", meeting_line(&one))?;
+    }
+    out.flush()
+}
+
 fn print_cells(coverage: &Coverage) {
     for (cell, count) in &coverage.cells {
         eprintln!("{cell:40} {count}");
@@ -91,12 +108,14 @@ fn main() -> ExitCode {
     let numbers: Option<Vec<u64>> = numbers.iter().map(|text| text.parse().ok()).collect();
     let has = |name: &str| options.iter().any(|option| option == name);
     let mut coverage = Coverage::default();
-    let printed = match (has("--matches"), numbers.as_deref()) {
-        (false, Some(&[seed, streams, records])) => print_streams(&mut coverage, seed, streams, records),
-        (true, Some(&[seed, count])) => print_matches(&mut coverage, seed, count),
+    let printed = match (has("--matches"), has("--meetings"), numbers.as_deref()) {
+        (false, false, Some(&[seed, streams, records])) => print_streams(&mut coverage, seed, streams, records),
+        (true, false, Some(&[seed, count])) => print_matches(&mut coverage, seed, count),
+        (false, true, Some(&[seed, count])) => print_meetings(&mut coverage, seed, count),
         _ => {
             eprintln!("usage: vectors SEED STREAMS RECORDS [--coverage]");
             eprintln!("       vectors --matches SEED COUNT [--coverage]");
+            eprintln!("       vectors --meetings SEED COUNT [--coverage]");
             return ExitCode::FAILURE;
         }
     };
@@ -106,7 +125,7 @@ fn main() -> ExitCode {
     if has("--coverage") {
         print_cells(&coverage);
     }
-    if has("--coverage") && !has("--matches") {
+    if has("--coverage") && coverage.calls > 0 {
         print_calls(&coverage);
     }
     ExitCode::SUCCESS

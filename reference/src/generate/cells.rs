@@ -1,6 +1,7 @@
 //! The cells that can occur, all of which a long enough run must reach.
 
 use super::coverage::Coverage;
+use super::range_cells;
 
 /// Every outcome of the own reply by mark.
 const OWN: [(&str, &[u8]); 6] = [
@@ -212,7 +213,7 @@ const NUMBERS: [&str; 84] = [
 ];
 
 /// What must occur of debts.
-const DEBTS: [&str; 80] = [
+const DEBTS: [&str; 81] = [
     "CR owes all",
     "CR owes some",
     "CR owes none with room",
@@ -281,6 +282,7 @@ const DEBTS: [&str; 80] = [
     "laid tuple wakes an inp or rdp",
     "laid tuple wakes formals",
     "laid tuple wakes actuals",
+    "laid tuple wakes a range",
     "laid tuple wakes and it is 12",
     "laid tuple wakes a body done",
     "1 pair owed",
@@ -321,6 +323,7 @@ pub fn wanted() -> Vec<String> {
     }
     cells.extend((1..=5).map(|number| format!("refused {number}")));
     cells.extend(wanted_of_debts());
+    cells.extend(range_cells::wanted());
     cells
 }
 

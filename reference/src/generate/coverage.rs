@@ -1,7 +1,8 @@
 //! Counts of the cells that the steps of a stream reach.
 
 use super::matches::Match;
-use super::{debt_cells, match_cells, number_cells, Step};
+use super::meetings::Meeting;
+use super::{debt_cells, match_cells, meeting_cells, number_cells, range_cells, Step};
 use crate::call::split;
 use crate::layout::{read_state, REPLY_BYTES};
 use crate::run::{read_request, Mark, Request, Run};
@@ -76,6 +77,7 @@ impl Coverage {
         let answer = own.map(|own| (own.outcome, own.branch));
         self.count_all(debt_cells::of_step(&before, mark, body, answer));
         self.count_all(debt_cells::of_state(&after));
+        self.count_all(range_cells::of_step(&before, mark, body));
         if let Some(request) = read_request(mark, body) {
             self.count_all(number_cells::of_request(&before, &request, answer));
             if let Some(own) = own {
@@ -93,6 +95,12 @@ impl Coverage {
     /// Counts the cells of a match, each once.
     pub fn add_match(&mut self, one: &Match) {
         let cells: BTreeSet<String> = match_cells::of_match(one).into_iter().collect();
+        self.count_all(cells.into_iter().collect());
+    }
+
+    /// Counts the cells of a pair of templates, each once.
+    pub fn add_meeting(&mut self, one: &Meeting) {
+        let cells: BTreeSet<String> = meeting_cells::of_meeting(one).into_iter().collect();
         self.count_all(cells.into_iter().collect());
     }
 

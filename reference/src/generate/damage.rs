@@ -2,7 +2,7 @@
 
 use super::numbers::{self, low};
 use super::rng::Rng;
-use super::{debts, statements};
+use super::{debts, ranges, statements};
 use crate::layout::{encode, HEADER_USED, NEXT_AT, OWED_AT, OWED_BYTES, SPACES_AT, SPACE_BYTES};
 use crate::layout::{SPACE_COUNT_AT, STATE_BYTES, TUPLES_AT, TUPLE_BYTES, WAITING_AT, WAITING_BYTES};
 use crate::run::{Mark, Run, Tuple, MOST_MONITORS, MOST_TUPLES, NUMBERS_USED_UP};
@@ -69,7 +69,12 @@ fn breach(rng: &mut Rng, bytes: Vec<u8>) -> (Vec<u8>, &'static str) {
     let Some(branch) = statement.branches.last_mut() else {
         return (bytes, "good");
     };
-    let (fields, body, note) = if rng.percent(45) { guard_breach(rng) } else { body_breach(rng) };
+    let (fields, body, note) = match rng.below(100) {
+        0..=31 => guard_breach(rng),
+        32..=69 => body_breach(rng),
+        70..=86 => range_breach(rng),
+        _ => range_body_breach(rng),
+    };
     branch.guard = Operation { code: RDP, spaces: vec![0], fields };
     branch.body = body;
     (statement::write(&statement), note)
@@ -156,6 +161,50 @@ fn body_breach(rng: &mut Rng) -> Breach {
     };
     let spaces = if matches!(code, MOVE | COPY) { vec![0, 0] } else { vec![0] };
     (vec![bind(kind, 3)], vec![Operation { code, spaces, fields }], note)
+}
+
+fn range(kind: u8, lowest: u32, highest: u32, variable: u8) -> Field {
+    Field::Range { kind, lowest: lowest.to_be_bytes(), highest: highest.to_be_bytes(), variable }
+}
+
+/// A range in a guard that breaks a rule.
+fn range_breach(rng: &mut Rng) -> Breach {
+    let bits = rng.pick(&[0x8000_0000, 0x7F80_0000, 0x7FC0_0000, 0xFF80_0000, 0xFFFF_FFFF]);
+    let (over, under) = rng.pick(&[(1, 0), (0, u32::MAX), (i32::MAX as u32, 1 << 31), (u32::MAX, u32::MAX - 1)]);
+    let negative = rng.pick(&[(0x8000_0001, 0x8000_0002), (0xBF80_0000, 0xC000_0000), (0, 0x8000_0001)]);
+    let (least, most) = (ranges::LEAST_METRES, ranges::MOST_METRES);
+    let kind = rng.pick(&[3, 4, 255]);
+    let (fields, note) = match rng.below(11) {
+        0 => (vec![range(WHOLE, over, under, 3)], "range of wholes upside down"),
+        1 => (vec![range(METRES, 0x3F80_0001, 0x3F80_0000, 3)], "range of metres upside down"),
+        2 => (vec![range(METRES, negative.0, negative.1, 3)], "range of negative metres upside down"),
+        3 => (vec![range(NAME, 1, rng.pick(&[1, 7]), 3)], "range of names"),
+        4 => (vec![range(kind, 0, 0, 3)], "range kind over 2"),
+        5 => (vec![range(METRES, bits, most, 3)], "range lowest not legal"),
+        6 => (vec![range(METRES, least, bits, 3)], "range highest not legal"),
+        7 => (vec![range(WHOLE, 0, 1, rng.pick(&[16, 255]))], "range variable over 15"),
+        8 => (vec![range(WHOLE, 0, 1, 3), Field::Use { variable: 3 }], "range used where bound"),
+        9 => (vec![range(WHOLE, 0, 1, 3), range(METRES, 0, 1, 3)], "range bound twice"),
+        _ => (vec![bind(WHOLE, 3), range(WHOLE, 0, 1, 3)], "range bound beside form 1"),
+    };
+    (fields, Vec::new(), note)
+}
+
+/// A range where it may not stand, or one whose variable is not used as it may be.
+fn range_body_breach(rng: &mut Rng) -> Breach {
+    let one = range(WHOLE, 0, 1, 4);
+    let again = range(WHOLE, 0, 1, 3);
+    let other = Field::Plus { variable: 3, value: metres(0) };
+    let (code, fields, note) = match rng.below(6) {
+        0 => (OUT, vec![one], "range in out"),
+        1 => (MOVE, vec![one], "range in move"),
+        2 => (COPY, vec![one], "range in copy"),
+        3 => (RD, vec![again], "range bound again"),
+        4 => (RD, vec![bind(WHOLE, 3)], "range's variable bound again"),
+        _ => (OUT, vec![other], "range's variable of other kind"),
+    };
+    let spaces = if matches!(code, MOVE | COPY) { vec![0, 0] } else { vec![0] };
+    (vec![range(WHOLE, 0, 1, 3)], vec![Operation { code, spaces, fields }], note)
 }
 
 /// A record with another mark, size or position.
@@ -437,7 +486,7 @@ fn waiting_lists(rng: &mut Rng, run: &mut Run) -> Option<&'static str> {
     let at = rng.below(count);
     let next = (at + 1) % count;
     let host = usize::from(run.waiting[at].statement.host);
-    match rng.below(12) {
+    match rng.below(14) {
         0 => run.waiting[at].position = 0,
         1 => run.waiting[count - 1].position = run.last.checked_add(1)?,
         2 if count > 1 => run.waiting[at].position = run.waiting[next].position,
@@ -457,6 +506,7 @@ fn waiting_lists(rng: &mut Rng, run: &mut Run) -> Option<&'static str> {
             run.waiting[at].statement.branches[0].guard.spaces[0] = other;
             return Some("waits in another's space");
         }
+        11 | 12 => return turned(run, at),
         _ => {
             let closed = closed(rng, run)?;
             run.waiting[at].statement.branches[0].guard.spaces[0] = closed;
@@ -464,6 +514,19 @@ fn waiting_lists(rng: &mut Rng, run: &mut Run) -> Option<&'static str> {
         }
     }
     Some("waiting entry")
+}
+
+/// A range of a waiting guard with its ends exchanged.
+fn turned(run: &mut Run, at: usize) -> Option<&'static str> {
+    let branches = &mut run.waiting[at].statement.branches;
+    let mut fields = branches.iter_mut().flat_map(|branch| &mut branch.guard.fields);
+    fields.find_map(|field| match field {
+        Field::Range { lowest, highest, .. } if lowest != highest => {
+            std::mem::swap(lowest, highest);
+            Some("waiting range upside down")
+        }
+        _ => None,
+    })
 }
 
 /// A guard of a waiting statement holds: true, or a tuple that it finds.
@@ -483,13 +546,14 @@ fn held(rng: &mut Rng, run: &mut Run, at: usize) -> Option<&'static str> {
         values.push(match field {
             Field::Given(value) => *value,
             Field::Bind { kind, .. } | Field::Any { kind } => statements::value(rng, (*kind).min(METRES)),
-            _ => return None,
+            _ => ranges::inside(rng, ranges::ends(field)?),
         });
     }
+    let by_range = guard.fields.iter().any(|field| ranges::ends(field).is_some());
     let tuple = Tuple { space: guard.spaces[0], values };
     if run.tuples.len() == 512 {
         run.tuples.pop();
     }
     run.tuples.push(tuple);
-    Some("guard holds")
+    Some(if by_range { "guard holds by a range" } else { "guard holds" })
 }

@@ -205,8 +205,9 @@ fn of_waking(earlier: &Phase, woken: &Phase) -> Vec<String> {
         return reached(&[(twelve && done, "woken 12 as the debt took the room")]);
     }
     let guard = &branch.guard;
-    let formal = |field: &Field| matches!(field, Field::Bind { .. } | Field::Any { .. });
+    let formal = |field: &Field| !matches!(field, Field::Given(_));
     let formals = guard.fields.iter().any(formal);
+    let ranges = guard.fields.iter().any(|field| matches!(field, Field::Range { .. }));
     reached(&[
         (true, "laid tuple wakes"),
         (guard.code == IN, "laid tuple wakes an in"),
@@ -214,6 +215,7 @@ fn of_waking(earlier: &Phase, woken: &Phase) -> Vec<String> {
         (!matches!(guard.code, IN | RD), "laid tuple wakes an inp or rdp"),
         (formals, "laid tuple wakes formals"),
         (!formals, "laid tuple wakes actuals"),
+        (ranges, "laid tuple wakes a range"),
         (twelve, "laid tuple wakes and it is 12"),
         (woken.outcome() == Some(0) && !branch.body.is_empty(), "laid tuple wakes a body done"),
     ])

@@ -161,7 +161,8 @@ impl Maker<'_> {
         };
         let mut bound = Bound::new();
         let mut fields = self.template(&tuple, &mut bound, false);
-        let used: Vec<u8> = branch.operations().flat_map(|op| op.fields.iter().filter_map(binds)).collect();
+        let bindings = branch.operations().flat_map(|op| op.fields.iter().filter_map(Field::binding));
+        let used: Vec<u8> = bindings.map(|(variable, _)| variable).collect();
         let Some(variable) = (0..16).find(|variable| !used.contains(variable)) else {
             return branch;
         };
@@ -282,13 +283,5 @@ impl Maker<'_> {
             8 => vec![self.notice(IN, bound)],
             _ => self.body(bound),
         }
-    }
-}
-
-/// The variable that a field binds.
-fn binds(field: &Field) -> Option<u8> {
-    match field {
-        Field::Bind { variable, .. } => Some(*variable),
-        _ => None,
     }
 }

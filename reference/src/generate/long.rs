@@ -1,5 +1,6 @@
 //! Statements with lengths near the limit.
 
+use super::ranges;
 use super::rng::Rng;
 use crate::statement::{self, Branch, Field, Operation, SpaceNumber, Statement, MOST_BYTES};
 use crate::statement::{COPY, IN, INP, MOST_OPERATIONS, MOVE, OUT, RD, RDP, TRUE};
@@ -33,7 +34,8 @@ fn guard(rng: &mut Rng, spaces: &[SpaceNumber], length: usize) -> Operation {
     }
     let mut fields = vec![Field::Given(name(900 + rng.below(6) as u16))];
     if !odd {
-        fields.push(Field::Bind { kind: WHOLE, variable: 0 });
+        let range = ranges::field((whole(-1), whole(1)), 0);
+        fields.push(if rng.percent(50) { Field::Bind { kind: WHOLE, variable: 0 } } else { range });
     }
     Operation { code: rng.pick(&[IN, RD, INP, RDP]), spaces: vec![rng.pick(spaces)], fields }
 }

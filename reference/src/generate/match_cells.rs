@@ -1,14 +1,16 @@
 //! The cells of a match, and those that must be.
 
 use super::matches::Match;
-use crate::matching::{actual, kind, value_of};
+use super::ranges::{above, below, ends};
+use crate::matching::{actual, kind, value_agrees, value_of};
 use crate::statement::{Field, COPY, IN, INP, MOST_FIELDS, MOVE, RD, RDP};
 use crate::value::{whole, Value, METRES, NAME, WHOLE};
 
 const CODES: [u8; 6] = [IN, INP, RD, RDP, MOVE, COPY];
 const KINDS: [u8; 3] = [WHOLE, NAME, METRES];
 const GIVEN: [u8; 2] = [0, 2];
-const FORMS: [u8; 4] = [0, 1, 2, 5];
+const FORMS: [u8; 5] = [0, 1, 2, 5, 6];
+const RANGE: u8 = 6;
 
 /// A field of the template beside the value at its place.
 struct Pair {
@@ -17,6 +19,7 @@ struct Pair {
     form: u8,
     kind: u8,
     actual: Option<Value>,
+    agrees: bool,
     value: Value,
 }
 
@@ -30,7 +33,7 @@ impl Pair {
     }
 
     fn value_differs(&self) -> bool {
-        !self.kind_differs() && self.bytes_differ()
+        !self.kind_differs() && !self.agrees
     }
 }
 
@@ -39,7 +42,8 @@ fn pairs(one: &Match) -> Vec<Pair> {
     both.filter_map(|(at, (field, value))| {
         let kind = kind(field, &one.bound)?;
         let actual = actual(field, &one.bound);
-        Some(Pair { at, field: field.clone(), form: field.form(), kind, actual, value: *value })
+        let agrees = value_agrees(field, &one.bound, value);
+        Some(Pair { at, field: field.clone(), form: field.form(), kind, actual, agrees, value: *value })
     })
     .collect()
 }
@@ -88,6 +92,7 @@ fn of_none(one: &Match, pairs: &[Pair]) -> Vec<String> {
             cells.push(format!("variable {variable:02}"));
             used.push(variable);
         }
+        cells.extend(of_range(pair));
     }
     let twice = used.iter().enumerate().any(|(at, variable)| used[..at].contains(variable));
     cells.extend(reached(&[
@@ -104,7 +109,7 @@ fn of_count(one: &Match, pairs: &[Pair]) -> Vec<String> {
     let kinds = pairs.iter().any(Pair::kind_differs);
     let bytes = pairs.iter().any(Pair::value_differs);
     let zero = |field: &Field| {
-        kind(field, &one.bound) == Some(WHOLE) && actual(field, &one.bound).is_none_or(|own| own == whole(0))
+        kind(field, &one.bound) == Some(WHOLE) && value_agrees(field, &one.bound, &whole(0))
     };
     let rest = &fields[pairs.len()..];
     let zeros = rest.iter().all(zero) && values[pairs.len()..].iter().all(|value| *value == whole(0));
@@ -129,6 +134,9 @@ fn of_kinds(pairs: &[Pair]) -> Vec<String> {
         if pair.actual.is_some() && !pair.bytes_differ() {
             cells.push(format!("form {form} equal bytes"));
             cells.push(format!("form {form} equal bytes kind {own} at kind {found}"));
+        }
+        if form == RANGE && value_agrees(&pair.field, &[], &Value { kind: own, ..pair.value }) {
+            cells.push(format!("form {form} holds the bytes kind {own} at kind {found}"));
         }
     }
     let (first, last) = (others[0].at, others[others.len() - 1].at);
@@ -155,6 +163,7 @@ fn of_values(one: &Match, pairs: &[Pair]) -> Vec<String> {
         cells.push(format!("form {}", pair.form));
         cells.push(format!("kind {}", pair.kind));
         cells.push(format!("form {} kind {}", pair.form, pair.kind));
+        cells.extend(of_range(pair));
         let Field::Use { variable } = pair.field else { continue };
         let agrees = |other: u8| other != variable && value_of(other, &one.bound) == Some(pair.value);
         if (0..=15).any(agrees) {
@@ -169,9 +178,35 @@ fn of_values(one: &Match, pairs: &[Pair]) -> Vec<String> {
     cells
 }
 
-/// The one value that differs: its field, and its byte where one alone differs.
+/// Where a value lies in a range, or how it misses it; and where the range lies.
+fn of_range(pair: &Pair) -> Vec<String> {
+    let Some((lowest, highest)) = ends(&pair.field) else {
+        return Vec::new();
+    };
+    let (value, zero) = (pair.value, Value { bytes: [0; 4], ..lowest });
+    let spot = match (value.is_at_most(&lowest), highest.is_at_most(&value)) {
+        (true, true) => "of one value",
+        (true, false) if value == lowest => "at its lowest",
+        (true, false) if Some(value) == below(&lowest) => "just below",
+        (true, false) => "far below",
+        (false, true) if value == highest => "at its highest",
+        (false, true) if Some(value) == above(&highest) => "just above",
+        (false, true) => "far above",
+        (false, false) => "inside",
+    };
+    let side = match (zero.is_at_most(&lowest), zero.is_at_most(&highest)) {
+        (true, _) => "from 0 up",
+        (false, true) => "from below 0",
+        (false, false) => "below 0",
+    };
+    vec![format!("range kind {} {spot}", pair.kind), format!("range kind {} {side}", pair.kind)]
+}
+
+/// The one value that differs: its field, and its byte where one alone differs from an actual's.
 fn of_value(pair: &Pair) -> Vec<String> {
-    let own = pair.actual.map_or([0; 4], |own| own.bytes);
+    let Some(own) = pair.actual.map(|own| own.bytes) else {
+        return vec![format!("field {} alone", pair.at)];
+    };
     let bytes: Vec<usize> = (0..4).filter(|at| own[*at] != pair.value.bytes[*at]).collect();
     let mut cells = vec![format!("field {} alone", pair.at)];
     match bytes[..] {
@@ -215,10 +250,33 @@ const ONCE: [&str; 21] = [
 /// in which no variable is bound yet.
 fn allows(code: u8, form: u8) -> bool {
     match form {
-        1 => !matches!(code, MOVE | COPY),
+        1 | RANGE => !matches!(code, MOVE | COPY),
         2 => !matches!(code, INP | RDP),
         _ => true,
     }
+}
+
+/// Names have no ranges.
+fn has_kind(form: u8, kind: u8) -> bool {
+    form != RANGE || kind != NAME
+}
+
+/// The cells of ranges by answer and kind.
+fn of_ranges() -> Vec<(bool, String)> {
+    let (met, missed) = (
+        ["of one value", "at its lowest", "at its highest", "inside"],
+        ["just below", "just above", "far below", "far above"],
+    );
+    let mut cells = Vec::new();
+    for kind in KINDS {
+        for (answer, other, spots) in [(0, 3, met), (3, 0, missed)] {
+            cells.extend(spots.map(|spot| (has_kind(RANGE, kind), format!("{answer} range kind {kind} {spot}"))));
+            cells.extend(spots.map(|spot| (false, format!("{other} range kind {kind} {spot}"))));
+            let sides = ["from 0 up", "from below 0", "below 0"];
+            cells.extend(sides.map(|side| (has_kind(RANGE, kind), format!("{answer} range kind {kind} {side}"))));
+        }
+    }
+    cells
 }
 
 /// A name's first two bytes are zero.
@@ -249,16 +307,19 @@ fn by_parts(can: bool) -> Vec<String> {
     }
     for form in FORMS {
         cells.extend([0, 2].map(|answer| (true, format!("{answer} form {form}"))));
-        cells.push((GIVEN.contains(&form), format!("3 form {form}")));
+        cells.push((GIVEN.contains(&form) || form == RANGE, format!("3 form {form}")));
         cells.push((GIVEN.contains(&form), format!("2 form {form} equal bytes")));
         cells.extend((0..4).map(|byte| (GIVEN.contains(&form), format!("3 form {form} byte {byte} alone"))));
     }
     for (kind, form) in KINDS.into_iter().flat_map(|kind| FORMS.map(|form| (kind, form))) {
-        cells.push((true, format!("0 form {form} kind {kind}")));
-        cells.push((GIVEN.contains(&form), format!("3 form {form} kind {kind}")));
+        cells.push((has_kind(form, kind), format!("0 form {form} kind {kind}")));
+        let misses = GIVEN.contains(&form) || form == RANGE && has_kind(form, kind);
+        cells.push((misses, format!("3 form {form} kind {kind}")));
         for other in KINDS {
             let equal = format!("2 form {form} equal bytes kind {kind} at kind {other}");
             cells.push((GIVEN.contains(&form) && kind != other, equal));
+            let held = format!("2 form {form} holds the bytes kind {kind} at kind {other}");
+            cells.push((form == RANGE && has_kind(form, kind) && kind != other, held));
         }
     }
     for kind in KINDS {
@@ -267,6 +328,7 @@ fn by_parts(can: bool) -> Vec<String> {
         cells.extend((0..4).map(|byte| (may_differ(kind, byte), format!("3 kind {kind} byte {byte} alone"))));
     }
     cells.extend((0..4).map(|byte| (true, format!("3 byte {byte} alone"))));
+    cells.extend(of_ranges());
     for (fields, values) in (1..=6).flat_map(|fields| (1..=6).map(move |values| (fields, values))) {
         cells.push((fields != values, format!("1 {fields} fields {values} values")));
     }

@@ -2,7 +2,7 @@
 //! The tuple starts as one that matches; then a few things of it are changed.
 
 use super::rng::Rng;
-use super::statements;
+use super::{ranges, statements};
 use crate::layout::encode;
 use crate::matching::{first_failing, Failing};
 use crate::run::{Run, Space, Tuple};
@@ -88,10 +88,11 @@ enum Change {
     Value,
     Values,
     Order,
+    Beside,
     All,
 }
 
-const CHANGES: [(Change, usize); 13] = [
+const CHANGES: [(Change, usize); 14] = [
     (Change::Nothing, 12),
     (Change::Count, 15),
     (Change::CountAndKind, 5),
@@ -104,6 +105,7 @@ const CHANGES: [(Change, usize); 13] = [
     (Change::Value, 26),
     (Change::Values, 4),
     (Change::Order, 3),
+    (Change::Beside, 8),
     (Change::All, 2),
 ];
 
@@ -199,7 +201,17 @@ impl Matches {
             Change::Value => self.other_value(values, given),
             Change::Values => (0..=one).for_each(|at| self.other_value(values, at)),
             Change::Order => values.rotate_left(one),
+            Change::Beside => self.beside(values, fields),
             Change::All => *values = self.values(),
+        }
+    }
+
+    /// Each value of a range goes right below or above it, or to another place in it.
+    fn beside(&mut self, values: &mut [Value], fields: &[Field]) {
+        for (field, value) in fields.iter().zip(values) {
+            if let Some(ends) = ranges::ends(field) {
+                *value = ranges::value_for(&mut self.rng, ends, 60);
+            }
         }
     }
 
@@ -247,7 +259,7 @@ impl Matches {
 }
 
 /// A legal value of the kind; many have bytes that are legal in every kind.
-fn value(rng: &mut Rng, kind: u8) -> Value {
+pub fn value(rng: &mut Rng, kind: u8) -> Value {
     loop {
         let number = match rng.below(4) {
             0 => return statements::value(rng, kind),
@@ -262,7 +274,7 @@ fn value(rng: &mut Rng, kind: u8) -> Value {
     }
 }
 
-fn any_value(rng: &mut Rng) -> Value {
+pub fn any_value(rng: &mut Rng) -> Value {
     let kind = rng.pick(&[WHOLE, NAME, METRES]);
     value(rng, kind)
 }
@@ -278,10 +290,12 @@ struct Names {
 impl Names {
     /// Fields that match the values.
     fn template(&mut self, rng: &mut Rng, values: &[Value]) -> Vec<Field> {
-        let (given, formal) = rng.pick(&[(1, 1), (1, 1), (1, 1), (1, 0), (0, 1)]);
+        let mixes = [(1, 1, 1), (1, 1, 1), (1, 1, 0), (1, 0, 0), (0, 1, 0), (0, 1, 6)];
+        let (given, formal, range) = rng.pick(&mixes);
         let binds = formal * usize::from(self.binds);
         let uses = given * usize::from(!self.guard);
-        let weights = [3 * given, 2 * binds, 3 * uses, 2 * formal];
+        let ranges = 3 * range * usize::from(self.binds);
+        let weights = [3 * given, 2 * binds, 3 * uses, 2 * formal, ranges];
         let mut fields = Vec::new();
         for value in values {
             let form = rng.weighted(&weights);
@@ -295,6 +309,7 @@ impl Names {
             0 => Field::Given(value),
             1 => Field::Bind { kind: value.kind, variable: self.taken() },
             2 => Field::Use { variable: self.bound_to(rng, value) },
+            4 if ranges::has_ranges(value.kind) => ranges::field(ranges::around(rng, &value), self.taken()),
             _ => Field::Any { kind: value.kind },
         }
     }

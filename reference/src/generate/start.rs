@@ -84,7 +84,8 @@ fn fill(rng: &mut Rng, profile: Profile, run: &mut Run) {
     let zero = if profile == Profile::Debts { rng.pick(&[70, 95, 99]) } else { 70 };
     let spaces: Vec<SpaceNumber> = run.spaces.iter().map(|space| space.number).collect();
     for i in 0..count {
-        let mut values = vec![whole(i as i32), name(7), metres(0x3F00_0000)];
+        let length = metres(rng.pick(&[0x3F00_0000, 0x3F00_0000, 0, 0xBF00_0000, 0x8000_0001, 1]));
+        let mut values = vec![whole(i as i32), name(7), length];
         values.rotate_left(rng.below(3));
         values.truncate(1 + rng.below(3));
         let space = if rng.percent(zero) { 0 } else { rng.pick(&spaces) };

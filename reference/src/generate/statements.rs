@@ -1,7 +1,7 @@
 //! Statements made for a run, each with an ending in view.
 
 use super::rng::Rng;
-use super::{debts, long, numbers, Profile};
+use super::{debts, long, numbers, ranges, Profile};
 use crate::run::{Run, Tuple};
 use crate::statement::{self, Branch, Field, Operation, SpaceNumber, Statement};
 use crate::statement::{COPY, IN, INP, MOVE, OUT, RD, RDP, TRUE};
@@ -68,18 +68,20 @@ pub fn value(rng: &mut Rng, kind: u8) -> Value {
 /// A value of the kind, with few of them so that templates meet.
 fn plain_value(rng: &mut Rng, kind: u8) -> Value {
     match kind {
-        WHOLE => whole(rng.pick(&[0, 1, 2])),
+        WHOLE => whole(rng.pick(&[0, 1, 2, -1])),
         NAME => name(rng.pick(&[1, 7])),
-        _ => metres(rng.pick(&[0, 0x3F00_0000, 0x4040_0000])),
+        _ => metres(rng.pick(&[0, 0x3F00_0000, 0x4040_0000, 0xBF00_0000])),
     }
 }
 
-/// A statement that binds all 16 variables once six and four wholes are there.
+/// A statement that binds all 16 variables, six of them by ranges around 0, once six and four wholes
+/// are there.
 pub fn wide(host: u8, process: u16, trigger: bool) -> Statement {
     let bind = |from: u8, to: u8| (from..to).map(|variable| Field::Bind { kind: WHOLE, variable }).collect();
+    let around = |variable: u8| ranges::field((whole(-i32::from(variable)), whole(i32::from(variable))), variable);
     let zeros = |count| vec![Field::Given(whole(0)); count];
     let mut body = vec![operation(RD, vec![0], bind(6, 12)), operation(RD, vec![0], bind(12, 16))];
-    let mut guard = operation(RD, vec![0], bind(0, 6));
+    let mut guard = operation(RD, vec![0], (0..6).map(around).collect());
     if trigger {
         body.insert(0, guard);
         body.insert(0, operation(OUT, vec![0], zeros(4)));
@@ -254,11 +256,19 @@ impl<'a> Maker<'a> {
             (0..=2, Some((variable, _))) => Field::Use { variable: *variable },
             (0..=5, _) if binds && free => {
                 bound.push((variable, *value));
-                Field::Bind { kind: value.kind, variable }
+                self.formal(value, variable)
             }
             (6 | 7, _) => Field::Any { kind: value.kind },
             _ => Field::Given(*value),
         }
+    }
+
+    /// A field that binds the variable: of the kind, or by a range that the value mostly lies in.
+    fn formal(&mut self, value: &Value, variable: u8) -> Field {
+        if ranges::has_ranges(value.kind) && self.rng.percent(45) {
+            return ranges::field(ranges::near(self.rng, value, 12), variable);
+        }
+        Field::Bind { kind: value.kind, variable }
     }
 
     fn kind(&mut self) -> u8 {
@@ -387,6 +397,10 @@ impl<'a> Maker<'a> {
                 let ends = self.profile == Profile::Arithmetic || self.rng.percent(15);
                 Field::Given(if ends { value(self.rng, *kind) } else { plain_value(self.rng, *kind) })
             }
+            Field::Range { .. } => match ranges::ends(field) {
+                Some(ends) => Field::Given(ranges::value_for(self.rng, ends, 20)),
+                None => field.clone(),
+            },
             given => given.clone(),
         }
     }

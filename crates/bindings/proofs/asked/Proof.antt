@@ -1,7 +1,7 @@
 -- `bindings::asked` meets its contract. Assumes nothing.
 use borrow.Author.Needs.{needs}
 use Rattle.bindings.specs.Variables.{bindingsOf}
-use Rattle.bindings.specs.Templates.{asks-actual, asks-reference, asks-other}
+use Rattle.bindings.specs.Templates.{asks-actual, asks-reference, asks-last}
 use Rattle.bindings.proofs.asked.Statement.{statement}
 use Rattle.bindings.proofs.asked.Tie as tie
 
@@ -14,10 +14,12 @@ held-requires c κs = search needs
 returns-2 : tie.Need-returns-2
 returns-2 c =
     let start = c .before .before .before .before .before in
-    asks-reference (bindingsOf (start .args .v)) (start .args .f) (c .before .if2 .taken) (c .held .result .kind) (c .held .result .bits) (c .held .result .given) (c .held .ensures)
+    asks-reference (bindingsOf (start .args .v)) (start .args .f) (c .before .if2 .taken) (c .held .result .kind) (c .held .result .bits) (c .held .ensures .0)
 
 returns-3 : tie.Need-returns-3
-returns-3 c = let start = c .before .before .before .before in asks-other (bindingsOf (start .args .v)) (start .args .f) (c .before .before .if1 .left) (c .if2 .left)
+returns-3 c =
+    let start = c .before .before .before .before .before in
+    asks-last (bindingsOf (start .args .v)) (start .args .f) (c .before .before .before .if1 .left) (c .before .if2 .left)
 
 pub asked-spec : {M : Type 1} → statement M
 asked-spec = tie.close (tie.spec returns held-requires returns-2 returns-3)

@@ -16,15 +16,20 @@ use Rattle.bindings.proofs.template_of.Statement.{statement}
 use Rattle.bindings.proofs.template_of.Tie as tie
 
 abbrev Inv-loop : tie.InvT-loop
-Inv-loop v op kinds₀ given₀ bits₀ n i₀ kinds given bits i =
-    (i ≤ n) × (templateFieldsFrom kinds given bits 0 i ≡ map (templateField (bindingsOf v)) (fieldsAre (take i (op .fields)))) × (length kinds ≡ mostFields) × (length given ≡ mostFields) × (length bits ≡ mostFields)
+Inv-loop v op kinds₀ given₀ lowest₀ highest₀ n i₀ kinds given lowest highest i =
+    (i ≤ n)
+    × (templateFieldsFrom kinds given lowest highest 0 i ≡ map (templateField (bindingsOf v)) (fieldsAre (take i (op .fields))))
+    × (length kinds ≡ mostFields)
+    × (length given ≡ mostFields)
+    × (length lowest ≡ mostFields)
+    × (length highest ≡ mostFields)
 
 abbrev μ-loop : tie.MeasureT-loop
-μ-loop v op kinds₀ given₀ bits₀ n i₀ kinds given bits i = n - i
+μ-loop v op kinds₀ given₀ lowest₀ highest₀ n i₀ kinds given lowest highest i = n - i
 
 loop-holds : tie.Need-loop-holds Inv-loop μ-loop
 unfolding fieldsAre templateFieldsFrom
-loop-holds c = (search needs, refl, refl, refl, refl)
+loop-holds c = (search needs, refl, refl, refl, refl, refl)
 
 mul-asked : tie.Need-mul-asked Inv-loop μ-loop
 mul-asked c = search needs
@@ -41,11 +46,17 @@ array-write-kinds c = search needs
 array-write-given : tie.Need-array-write-given Inv-loop μ-loop
 array-write-given c = search needs
 
-mul-bits : tie.Need-mul-bits Inv-loop μ-loop
-mul-bits c = search needs
+mul-lowest : tie.Need-mul-lowest Inv-loop μ-loop
+mul-lowest c = search needs
 
-array-write-bits : tie.Need-array-write-bits Inv-loop μ-loop
-array-write-bits c = search needs
+array-write-lowest : tie.Need-array-write-lowest Inv-loop μ-loop
+array-write-lowest c = search needs
+
+mul-highest : tie.Need-mul-highest Inv-loop μ-loop
+mul-highest c = search needs
+
+array-write-highest : tie.Need-array-write-highest Inv-loop μ-loop
+array-write-highest c = search needs
 
 add-i : tie.Need-add-i Inv-loop μ-loop
 add-i c = search needs
@@ -60,8 +71,10 @@ loop-again c =
     let six : length (start .args .t1 .fields) ≡ mostFields = search (needs, length-mapped) in
     let few : at .i < mostFields = search needs in (
       search needs,
-      ask-turn (bindingsOf (start .args .v)) (start .args .t1 .fields) _ (at .kinds) (at .given) (at .bits) (at .i) (c .asked .result .kind) (c .asked .result .given) (c .asked .result .bits)
-          (omega arith) (omega arith) (omega arith) (omega arith) (at .inv .1) (c .asked .ensures),
+      ask-turn (bindingsOf (start .args .v)) (start .args .t1 .fields) _ (at .kinds) (at .given) (at .lowest) (at .highest) (at .i)
+          (c .asked .result .kind) (c .asked .result .given) (c .asked .result .lowest) (c .asked .result .highest)
+          (omega arith) (omega arith) (omega arith) (omega arith) (omega arith) (at .inv .1) (c .asked .ensures),
+      search needs,
       search needs,
       search needs,
       search needs,
@@ -85,8 +98,10 @@ template-of-spec =
     asked-requires
     array-write-kinds
     array-write-given
-    mul-bits
-    array-write-bits
+    mul-lowest
+    array-write-lowest
+    mul-highest
+    array-write-highest
     add-i
     loop-less
     loop-again

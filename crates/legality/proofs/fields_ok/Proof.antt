@@ -11,13 +11,13 @@ use Rattle.legality.proofs.fields_ok.Statement.{statement}
 use Rattle.legality.proofs.fields_ok.Tie as tie
 
 abbrev Inv-loop : tie.InvT-loop
-Inv-loop op kinds fields count now₀ i₀ now i = Judging (op .code) count fields kinds now i
+Inv-loop op earlier start fields count now₀ i₀ now i = Judging (op .code) count fields earlier start now i
 
 abbrev μ-loop : tie.MeasureT-loop
-μ-loop op kinds fields count now₀ i₀ now i = count - i
+μ-loop op earlier start fields count now₀ i₀ now i = count - i
 
 loop-holds : tie.Need-loop-holds Inv-loop μ-loop
-loop-holds c = judging-start _ _ _ _
+loop-holds c = judging-start _ _ _ _ _
 
 mul-f : tie.Need-mul-f Inv-loop μ-loop
 mul-f c = search needs
@@ -32,9 +32,9 @@ returns : tie.Need-returns Inv-loop μ-loop
 returns c = let k = c .before .before in
     let l = k .before .before .before in
     let s = l .before .before in
-    let d : Field = record { form = 0; kind = 0; variable = 0; bits = 0 } in
+    let d : Field = record { form = 0; kind = 0; variable = 0; bits = 0; highest = 0 } in
     let room : s .args .op .count ≤ length (s .args .op .fields) = omega (arith, s .pre, six (s .args .op) _ (s .good .0)) in
-    judging-stop (s .args .op .code) (s .args .op .count) (s .args .op .fields) (s .args .kinds) (l .loop .now) (s .args .kinds) (l .loop .i) d (k .field-step .result) (k .before .before .loop-test .taken) room (l .loop .inv) (k .field-step .ensures) (not-true _ (c .if1 .taken))
+    judging-stop (s .args .op .code) (s .args .op .count) (s .args .op .fields) (s .args .earlier) (s .args .start) (l .loop .now) (s .args .start) (l .loop .i) d (k .field-step .result) (k .before .before .loop-test .taken) room (l .loop .inv) (k .field-step .ensures) (not-true _ (c .if1 .taken))
 
 add-i : tie.Need-add-i Inv-loop μ-loop
 add-i c = search needs
@@ -46,15 +46,15 @@ loop-again : tie.Need-loop-again Inv-loop μ-loop
 loop-again c = let k = c .before .before .before in
     let l = k .before .before .before in
     let s = l .before .before in
-    let d : Field = record { form = 0; kind = 0; variable = 0; bits = 0 } in
+    let d : Field = record { form = 0; kind = 0; variable = 0; bits = 0; highest = 0 } in
     let room : s .args .op .count ≤ length (s .args .op .fields) = omega (arith, s .pre, six (s .args .op) _ (s .good .0)) in
-    judging-turn (s .args .op .code) (s .args .op .count) (s .args .op .fields) (s .args .kinds) (l .loop .now) (l .loop .i) d (k .field-step .result) (k .before .before .loop-test .taken) room (l .loop .inv) (k .field-step .ensures) (not-false _ (c .before .if1 .left))
+    judging-turn (s .args .op .code) (s .args .op .count) (s .args .op .fields) (s .args .earlier) (s .args .start) (l .loop .now) (l .loop .i) d (k .field-step .result) (k .before .before .loop-test .taken) room (l .loop .inv) (k .field-step .ensures) (not-false _ (c .before .if1 .left))
 
 returns-2 : tie.Need-returns-2 Inv-loop μ-loop
 returns-2 c = let l = c .before in
     let s = l .before .before in
     let room : s .args .op .count ≤ length (s .args .op .fields) = omega (arith, s .pre, six (s .args .op) _ (s .good .0)) in
-    judging-done (s .args .op .code) (s .args .op .count) (s .args .op .fields) (s .args .kinds) (l .loop .now) (l .loop .i) (c .loop-test .left) room (l .loop .inv)
+    judging-done (s .args .op .code) (s .args .op .count) (s .args .op .fields) (s .args .earlier) (s .args .start) (l .loop .now) (l .loop .i) (c .loop-test .left) room (l .loop .inv)
 
 pub fields-ok-spec : {M : Type 1} → statement M
 fields-ok-spec =

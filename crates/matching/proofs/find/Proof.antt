@@ -2,6 +2,7 @@
 use Prim.Native.Nat.{_-_, _≤_}
 use native.Mathlib.Omega.{arith}
 use mathlib.Core.Path.{_≡_, sym, _∙_}
+use mathlib.Core.Logic.{⊎-elim}
 use Rattle.basis.specs.Lists.{first}
 use Rattle.model.specs.Matching.{isMatch}
 use Rattle.tuples.specs.Section.{tuplesOf}
@@ -20,15 +21,18 @@ abbrev μ-loop : tie.MeasureT-loop
 loop-holds : tie.Need-loop-holds Inv-loop μ-loop
 loop-holds c = let a = c .before .args in (omega arith, search-all (isMatch (templateIs (a .template))) (a .tuples .now) (a .n))
 
-is-match-requires : tie.Need-is-match-requires Inv-loop μ-loop
-is-match-requires c κs = search needs
+may-match-requires : tie.Need-may-match-requires Inv-loop μ-loop
+may-match-requires c κs = search needs
+
+agrees-requires : tie.Need-agrees-requires Inv-loop μ-loop
+agrees-requires c κs = search needs
 
 returns : tie.Need-returns Inv-loop μ-loop
 returns c =
-    let turn = c .before .before in
+    let turn = c .before .before .before .before in
     let l = turn .before in
     let a = l .before .before .args in
-    search-hit (isMatch (templateIs (a .template))) (a .tuples .now) (a .n) (l .loop .i) (turn .loop-test .taken) (sym (c .before .is-match .ensures) ∙ c .if1 .taken) ∙ sym (l .loop .inv .1)
+    search-hit (isMatch (templateIs (a .template))) (a .tuples .now) (a .n) (l .loop .i) (turn .loop-test .taken) (sym (c .before .agrees .ensures) ∙ c .if2 .taken) ∙ sym (l .loop .inv .1)
 
 add-i : tie.Need-add-i Inv-loop μ-loop
 add-i c = search needs
@@ -40,8 +44,12 @@ loop-again : tie.Need-loop-again Inv-loop μ-loop
 loop-again c =
     let turn = c .before .before in
     let l = turn .before in
-    let a = l .before .before .args in
-    (omega arith, l .loop .inv .1 ∙ search-miss (isMatch (templateIs (a .template))) (a .tuples .now) (a .n) (l .loop .i) (turn .loop-test .taken) (sym (c .before .is-match .ensures) ∙ c .if1 .left))
+    let a = l .before .before .args in (
+      omega arith,
+      l .loop .inv .1
+          ∙ search-miss (isMatch (templateIs (a .template))) (a .tuples .now) (a .n) (l .loop .i) (turn .loop-test .taken)
+          (⊎-elim (λ w. sym (w .1 .ensures) ∙ w .2 .left) (λ w. c .before .may-match .ensures (w .left)) (c .if1 .came)),
+    )
 
 returns-2 : tie.Need-returns-2 Inv-loop μ-loop
 returns-2 c =
@@ -56,7 +64,8 @@ find-spec =
     Inv-loop
     μ-loop
     loop-holds
-    is-match-requires
+    may-match-requires
+    agrees-requires
     returns
     add-i
     loop-less

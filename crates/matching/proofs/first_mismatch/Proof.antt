@@ -2,15 +2,16 @@
 use Prim.Native.Nat.{_-_, _≤_, _<_}
 use native.Mathlib.Omega.{arith}
 use mathlib.Core.Path.{_≡_, refl, _∙_}
-use mathlib.Core.Bool.{true}
+use mathlib.Core.Bool.{true, false}
 use mathlib.Core.Logic.{⊎-elim}
+use borrow.Author.Tests.{not-true, not-false}
 use Rattle.basis.specs.Sizes.{mostFields}
 use Rattle.model.specs.Matching.{sameKind, sameValue, firstMismatch}
 use Rattle.tuples.specs.Section.{tupleAt}
 use Rattle.tuples.specs.Entry.{valueIn}
-use Rattle.matching.specs.declared.Mismatch.the-variants.{None}
+use Rattle.matching.specs.declared.Mismatch.the-variants.{None, Values}
 use Rattle.matching.specs.Meaning.{templateIs, mismatchIs}
-use Rattle.matching.specs.SearchLaws.{pairsFrom, pairs-miss, pairs-more, pairs-end, kind-other, kind-same, value-any, value-other, value-same, count-told, kinds-told, values-told, none-told}
+use Rattle.matching.specs.SearchLaws.{fieldAt, pairsFrom, pairs-miss, pairs-more, pairs-end, kind-other, kind-same, value-any, value-ranged, value-other, value-same, count-told, kinds-told, values-told, none-told}
 use borrow.Author.Needs.{needs}
 use Rattle.matching.proofs.first_mismatch.Statement.{statement}
 use Rattle.matching.proofs.first_mismatch.Tie as tie
@@ -97,11 +98,23 @@ element-copy-out-if5 c = search needs
 bits-requires : tie.Need-bits-requires Inv-kinds μ-kinds Inv-values μ-values
 bits-requires c κs = search needs
 
-mul-if6 : tie.Need-mul-if6 Inv-kinds μ-kinds Inv-values μ-values
-mul-if6 c = search needs
+mul-lowest : tie.Need-mul-lowest Inv-kinds μ-kinds Inv-values μ-values
+mul-lowest c = search needs
 
-element-copy-out-if6 : tie.Need-element-copy-out-if6 Inv-kinds μ-kinds Inv-values μ-values
-element-copy-out-if6 c = search needs
+element-copy-out-lowest : tie.Need-element-copy-out-lowest Inv-kinds μ-kinds Inv-values μ-values
+element-copy-out-lowest c = search needs
+
+mul-highest : tie.Need-mul-highest Inv-kinds μ-kinds Inv-values μ-values
+mul-highest c = search needs
+
+element-copy-out-highest : tie.Need-element-copy-out-highest Inv-kinds μ-kinds Inv-values μ-values
+element-copy-out-highest c = search needs
+
+element-copy-out-is-within : tie.Need-element-copy-out-is-within Inv-kinds μ-kinds Inv-values μ-values
+element-copy-out-is-within c = search needs
+
+is-within-requires : tie.Need-is-within-requires Inv-kinds μ-kinds Inv-values μ-values
+is-within-requires c κs = search needs
 
 -- after the first loop all kinds agree
 module _ (c : tie.Left-kinds Inv-kinds μ-kinds Inv-values μ-values) where
@@ -114,9 +127,23 @@ module _ (c : tie.Left-kinds Inv-kinds μ-kinds Inv-values μ-values) where
   all-kinds : pairsFrom sameKind (begin .args .t3) (begin .args .tuples .now) (begin .args .i) (begin .args .t3 .count) 0 ≡ true
   all-kinds = c .before .kinds .inv .0 ∙ pairs-end sameKind (begin .args .t3) (begin .args .tuples .now) (begin .args .i) (begin .args .t3 .count) (c .before .kinds .k) no-more
 
+-- a turn of the second one
 module _ (c : tie.Else4 Inv-kinds μ-kinds Inv-values μ-values) where
-  one-of-values : c .before .before .values .f < begin (c .before .before .before) .args .t3 .count
+  abbrev first : tie.Start Inv-kinds μ-kinds Inv-values μ-values
+  first = begin (c .before .before .before)
+
+  one-of-values : c .before .before .values .f < first .args .t3 .count
   one-of-values = omega (arith, c .before .before .values .inv .1, c .if4 .left)
+
+  -- the value of this field fails
+  value-fails : sameValue (fieldAt (first .args .t3) (c .before .before .values .f)) (valueIn (first .args .tuples .now) (first .args .i) (c .before .before .values .f)) ≡ false
+      → mismatchIs Values ≡ firstMismatch (templateIs (first .args .t3)) (tupleAt (first .args .tuples .now) (first .args .i))
+  value-fails e =
+      let l = c .before .before in
+      let same = l .before .before .before in
+      let a = first .args in
+      values-told (a .t3) (a .tuples .now) (a .i) _ (same .before .field-count .ensures) (same .if1 .left) (first .pre .1) (all-kinds (l .before))
+      (l .values .inv .0 ∙ pairs-miss sameValue (a .t3) (a .tuples .now) (a .i) (a .t3 .count) (l .values .f) one-of-values e)
 
 -- after the second one nothing fails
 module _ (c : tie.At-values Inv-kinds μ-kinds Inv-values μ-values) where
@@ -131,17 +158,22 @@ module _ (c : tie.At-values Inv-kinds μ-kinds Inv-values μ-values) where
 
 returns-3 : tie.Need-returns-3 Inv-kinds μ-kinds Inv-values μ-values
 returns-3 c =
-    let read = c .before .before in
-    let given = read .before in
-    let turn = given .before .before in
+    let one = c .before in
+    let read = one .before .before .before in
+    let turn = read .before .before .before in
     let l = turn .before .before in
-    let same = l .before .before .before in
-    let s = begin (l .before) in
-    let a = s .args in
-    values-told (a .t3) (a .tuples .now) (a .i) _ (same .before .field-count .ensures) (same .if1 .left) (s .pre .1) (all-kinds (l .before))
-    (l .values .inv .0
-    ∙ pairs-miss sameValue (a .t3) (a .tuples .now) (a .i) (a .t3 .count) (l .values .f) (one-of-values turn)
-    (value-other (a .t3) (l .values .f) (valueIn (a .tuples .now) (a .i) (l .values .f)) _ (read .bits .ensures) (given .if5 .taken) (c .if6 .taken)))
+    let a = first turn .args in
+    value-fails turn (value-other (a .t3) (l .values .f) (valueIn (a .tuples .now) (a .i) (l .values .f)) _ (read .bits .ensures) (read .before .if5 .taken) (one .if6 .taken) (c .if7 .taken))
+
+returns-4 : tie.Need-returns-4 Inv-kinds μ-kinds Inv-values μ-values
+returns-4 c =
+    let told = c .before in
+    let read = told .before .before .before .before .before in
+    let turn = read .before .before .before in
+    let l = turn .before .before in
+    let a = first turn .args in
+    value-fails turn
+    (value-ranged (a .t3) (l .values .f) (valueIn (a .tuples .now) (a .i) (l .values .f)) _ (read .bits .ensures) (read .before .if5 .taken) _ (told .is-within .ensures) ∙ not-true _ (c .if8 .taken))
 
 add-f : tie.Need-add-f Inv-kinds μ-kinds Inv-values μ-values
 add-f c = search needs
@@ -153,19 +185,21 @@ values-again : tie.Need-values-again Inv-kinds μ-kinds Inv-values μ-values
 values-again c =
     let turn = c .before .before in
     let l = turn .before .before in
-    let a = begin (l .before) .args in
+    let a = first turn .args in
     let v = valueIn (a .tuples .now) (a .i) (l .values .f) in (
       l .values .inv .0
           ∙ pairs-more sameValue (a .t3) (a .tuples .now) (a .i) (a .t3 .count) (l .values .f) (one-of-values turn)
-          (⊎-elim (λ w. value-same (a .t3) (l .values .f) v _ (w .1 .ensures) (w .0 .taken) (w .3 .left)) (λ w. value-any (a .t3) (l .values .f) v (w .left)) (c .if5 .came)),
+          (⊎-elim (λ w. value-same (a .t3) (l .values .f) v _ (w .1 .ensures) (w .0 .taken) (w .4 .taken) (w .5 .left))
+          (⊎-elim (λ w. value-ranged (a .t3) (l .values .f) v _ (w .1 .ensures) (w .0 .taken) _ (w .6 .ensures) ∙ not-false _ (w .7 .left)) (λ w. value-any (a .t3) (l .values .f) v (w .left)))
+          (c .if5 .came)),
       omega (arith, one-of-values turn),
     )
 
-returns-4 : tie.Need-returns-4 Inv-kinds μ-kinds Inv-values μ-values
-returns-4 c = none-fails (c .before) (omega (arith, c .values-test .left, begin (c .before .before) .pre .1))
-
 returns-5 : tie.Need-returns-5 Inv-kinds μ-kinds Inv-values μ-values
-returns-5 c = none-fails (c .before .before) (omega (arith, c .if4 .taken))
+returns-5 c = none-fails (c .before) (omega (arith, c .values-test .left, begin (c .before .before) .pre .1))
+
+returns-6 : tie.Need-returns-6 Inv-kinds μ-kinds Inv-values μ-values
+returns-6 c = none-fails (c .before .before) (omega (arith, c .if4 .taken))
 
 pub first-mismatch-spec : {M : Type 1} → statement M
 first-mismatch-spec =
@@ -187,11 +221,16 @@ first-mismatch-spec =
     values-holds
     element-copy-out-if5
     bits-requires
-    mul-if6
-    element-copy-out-if6
+    mul-lowest
+    element-copy-out-lowest
+    mul-highest
+    element-copy-out-highest
     returns-3
+    element-copy-out-is-within
+    is-within-requires
+    returns-4
     add-f
     values-less
     values-again
-    returns-4
-    returns-5)
+    returns-5
+    returns-6)

@@ -17,7 +17,7 @@ abbrev μ-loop : tie.MeasureT-loop
 μ-loop t₀ at fields count end₀ i₀ t end i = count - i
 
 abbrev noField : Field
-noField = record { form = 0; kind = 0; variable = 0; bits = 0 }
+noField = record { form = 0; kind = 0; variable = 0; bits = 0; highest = 0 }
 
 loop-holds : tie.Need-loop-holds Inv-loop μ-loop
 loop-holds c = let a = c .before .before .args in (omega arith, putting-start (a .op .fields) (a .t .now) (a .at))

@@ -22,11 +22,15 @@ unfolding widthOf
 returns-4 c = sym (ap widthOf (c .match .keys4))
 
 returns-5 : tie.Need-returns-5
-returns-5 c = let r = c .before .match .rest in
-    sym (width-sum (c .before .before .args .form) (omega (arith, r .0 .0 .0 .1, r .0 .0 .1, r .0 .1)) (c .if1 .taken))
+unfolding widthOf
+returns-5 c = sym (ap widthOf (c .match .keys5))
 
 returns-6 : tie.Need-returns-6
-returns-6 c = sym (width-past (c .before .before .args .form) (omega (arith, c .before .match .rest .1, c .if1 .left)))
+returns-6 c = let r = c .before .match .rest in
+    sym (width-sum (c .before .before .args .form) (omega (arith, r .0 .0 .0 .0 .1, r .0 .0 .0 .1, r .0 .0 .1)) (c .if1 .taken))
+
+returns-7 : tie.Need-returns-7
+returns-7 c = let r = c .before .match .rest in sym (width-past (c .before .before .args .form) (omega (arith, r .0 .1, r .1, c .if1 .left)))
 
 pub field-width-spec : {M : Type 1} → statement M
-field-width-spec = tie.close (tie.spec returns returns-2 returns-3 returns-4 returns-5 returns-6)
+field-width-spec = tie.close (tie.spec returns returns-2 returns-3 returns-4 returns-5 returns-6 returns-7)

@@ -1,8 +1,8 @@
 -- `validation::tuples_ok` meets its contract. Assumes nothing.
 use mathlib.Core.Path.{sym, _∙_}
 use borrow.Author.Tests.{not-true, not-false}
-use Rattle.basis.specs.Logic.{true-is}
-use Rattle.scans.specs.Tests.{refused, same-test, clash}
+use Rattle.basis.specs.Logic.{true-is, same-test}
+use Rattle.scans.specs.Tests.{refused, clash}
 use Rattle.validation.specs.TupleLaws.{rows-tuples, tuples-unused, tuples-rows}
 use borrow.Author.Needs.{needs}
 use Rattle.validation.proofs.tuples_ok.Statement.{statement}

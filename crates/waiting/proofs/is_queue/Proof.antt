@@ -4,9 +4,9 @@ use native.Mathlib.Omega.{arith}
 use lib.Dec.{T}
 use lib.Pow.{areBytes}
 use borrow.Author.Tests.{not-true, not-false}
-use Rattle.basis.specs.Logic.{true-is}
+use Rattle.basis.specs.Logic.{true-is, same-test}
 use Rattle.sections.specs.RowLaws.{bytes-of}
-use Rattle.scans.specs.Tests.{refused, same-test, clash}
+use Rattle.scans.specs.Tests.{refused, clash}
 use Rattle.queue.specs.LegalLaws.{rows-queue, queue-unused, queue-rows}
 use borrow.Author.Needs.{needs}
 use Rattle.waiting.proofs.is_queue.Statement.{statement}

@@ -20,7 +20,7 @@ abbrev μ-loop : tie.MeasureT-loop
 μ-loop fields count i₀ i = count - i
 
 abbrev noField : Field
-noField = record { form = 0; kind = 0; variable = 0; bits = 0 }
+noField = record { form = 0; kind = 0; variable = 0; bits = 0; highest = 0 }
 
 loop-holds : tie.Need-loop-holds Inv-loop μ-loop
 loop-holds c = (omega arith, forms-none (c .before .args .op .fields))
