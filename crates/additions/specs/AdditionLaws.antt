@@ -11,7 +11,7 @@ use Rattle.model.specs.Statement.{Statement}
 use Rattle.model.specs.Reading.{statement}
 use Rattle.model.specs.Legal.{legal_statement, parse, legal_body}
 use Rattle.model.specs.Writing.{statement_bytes}
-use Rattle.model.specs.RoundTrip.{FitsStatement, reads_whole, reads_statement, legal_fits}
+use Rattle.model.proofs.RoundTrip.{FitsStatement, reads_whole, reads_statement, legal_fits}
 use Rattle.statements.specs.declared.Operation.{Operation}
 use Rattle.statements.specs.Flat.{operation_is}
 use Rattle.writer.specs.Writer.{is_handed, handed, begun, Written, is_writable, refused_by, written, held, begin_on, add_to}

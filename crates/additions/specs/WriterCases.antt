@@ -1,6 +1,6 @@
 -- Bodies written addition by addition, as literal bytes, and refusals: one theorem over a table, proved by computing. Assumes nothing.
 use Rattle.std.specs.Prelude.{◌≡◌, refl, List, [], ◌∷◌, ◌++◌, map, ℕ, length, drop, replicate}
-use Rattle.model.specs.Computes.{computes}
+use Rattle.model.proofs.Computes.{computes}
 use Rattle.statements.specs.declared.Field.{Field}
 use Rattle.statements.specs.declared.Operation.{Operation}
 use Rattle.statements.specs.Flat.{has_form, field_of, field_is, fields_are, operation_of, operation_is}

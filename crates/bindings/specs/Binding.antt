@@ -8,7 +8,7 @@ use Rattle.model.specs.Value.{Value, value}
 use Rattle.model.specs.Statement as Model
 use Rattle.model.specs.Statement.{binder_of}
 use Rattle.model.specs.Matching.{Bindings, bind_field, bind}
-use Rattle.model.specs.BinderLaws.{values_set}
+use Rattle.model.proofs.BinderLaws.{values_set}
 use Rattle.statements.specs.declared.Field.{Field}
 use Rattle.statements.specs.Flat.{field_is, fields_are}
 use Rattle.statements.specs.Binds.{binder_in}

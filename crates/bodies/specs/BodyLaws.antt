@@ -13,7 +13,7 @@ use Rattle.basis.specs.Sizes.{most_branches, most_body, hosts, processes, proces
 use Rattle.model.specs.Statement.{Branch, Statement}
 use Rattle.model.specs.Legal.{legal_branch, legal_statement, parse, legal_body}
 use Rattle.model.specs.Reading.{several, whole_of, branch}
-use Rattle.model.specs.ReadBack.{several_length}
+use Rattle.model.proofs.ReadBack.{several_length}
 use Rattle.statements.specs.Ends.{end_at, end_of, end_of_lem, position_some}
 use Rattle.statements.specs.At.{position}
 use Rattle.walk.specs.BodyParts.{statement_of, statement_one, statement_short}

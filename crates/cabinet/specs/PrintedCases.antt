@@ -5,7 +5,7 @@ use Rattle.basis.specs.Lists.{zeros}
 use Rattle.basis.specs.Sizes.{reply_size}
 use Rattle.model.specs.Run.{fresh}
 use Rattle.layout.specs.States.{encode}
-use Rattle.calls.specs.Computes.{computes}
+use Rattle.calls.proofs.Computes.{computes}
 use Rattle.calls.specs.Calls.{Bytes, lent}
 use Rattle.text.specs.Lines.{codes, hex_digit, digits_within, decimal, hex_byte, value_text, parts_of, spaced, line_of, lines_of, refused_line}
 use Rattle.cabinet.specs.Printed.{text_of, goes_on, answered}

@@ -10,16 +10,16 @@ use Rattle.basis.specs.ListLaws.{Each, each_nil}
 use Rattle.basis.specs.Sizes.{position_width, position_at, body_at, positions, reply_header_size, reply_size, state_size}
 use Rattle.model.specs.Run.{Run, fresh, Reply, Turn}
 use Rattle.model.specs.Step.{Record, record_of}
-use Rattle.model.specs.Sound.{Sound}
+use Rattle.model.proofs.Sound.{Sound}
 use Rattle.layout.specs.Replies.{replies_bytes}
 use Rattle.layout.specs.States.{encode, decode}
 use Rattle.layout.specs.IsState.{is_state}
 use Rattle.layout.specs.StateLaws.{state_encode}
 use Rattle.layout.specs.StateSound.{state_sound}
 use Rattle.calls.specs.Calls.{Bytes, FreshAnswer, fresh_answer, fresh_call, Lent, Answer, answer, number_of, in_turn, refusal_at, refusal, step_bytes, laid_over, turned_back, taken, take_call}
-use Rattle.calls.specs.ReturnLaws.{taken_number, refusal_number, taken_fit, refusal_none, call_reply_length}
-use Rattle.calls.specs.CallLaws.{passes_next, fresh_made, taken_by, take_sound}
-use Rattle.calls.specs.StateSteps.{fresh_state, step_state}
+use Rattle.calls.proofs.ReturnLaws.{taken_number, refusal_number, taken_fit, refusal_none, call_reply_length}
+use Rattle.calls.proofs.CallLaws.{passes_next, fresh_made, taken_by, take_sound}
+use Rattle.calls.proofs.StateSteps.{fresh_state, step_state}
 use Rattle.framing.specs.FrameLaws.{record_parts, record_short}
 use Rattle.text.specs.Lines.{lines_of, refused_line}
 use Rattle.text.specs.Written.{growth, Fits, Given}

@@ -1,11 +1,2 @@
 pub mod Calls
 pub mod TwoReplicas
-pub mod CallLaws
-pub mod StateSteps
-pub mod ReturnLaws
-pub mod BufferLaws
-pub mod Theorem
-pub mod SameDebts
-pub mod NotEmpty
-pub mod WrongCalls
-pub mod Computes

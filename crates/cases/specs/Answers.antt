@@ -4,7 +4,7 @@ use Rattle.std.proofs.Math.Option.{some}
 use Rattle.model.specs.Value.{Value, value, whole, name, metres, range}
 use Rattle.model.specs.Statement.{Field, actual, formal, reference, anonymous, ranged}
 use Rattle.model.specs.Matching.{Bindings, unbound, template, mismatch_number, first_mismatch}
-use Rattle.calls.specs.Computes.{computes}
+use Rattle.calls.proofs.Computes.{computes}
 
 -- fields of a template with the variables that are bound, a tuple's values, and the answer that the papers give
 pub record Answer : Type 0 where

@@ -4,8 +4,8 @@ use Rattle.model.specs.Value.{value, whole, name, metres, range}
 use Rattle.model.specs.Statement.{actual, formal, anonymous, ranged}
 use Rattle.model.specs.Matching.{Tuple, unbound, template}
 use Rattle.model.specs.Meeting.{can_meet}
-use Rattle.model.specs.MeetingLaws.{meeting_tuple}
-use Rattle.calls.specs.Computes.{computes}
+use Rattle.model.proofs.MeetingLaws.{meeting_tuple}
+use Rattle.calls.proofs.Computes.{computes}
 
 -- two operations as bytes (code, space, field count, fields), and the answer that the papers give
 pub record Pair : Type 0 where

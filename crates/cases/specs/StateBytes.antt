@@ -7,7 +7,7 @@ use Rattle.layout.specs.Replies.{replies_bytes}
 use Rattle.layout.specs.States.{encode, decode}
 use Rattle.layout.specs.IsState.{is_state}
 use Rattle.calls.specs.Calls.{Bytes, FreshAnswer, fresh_call, Lent, Answer, take_call, step_bytes}
-use Rattle.calls.specs.Computes.{computes}
+use Rattle.calls.proofs.Computes.{computes}
 use Rattle.cases.specs.Shown.{owed_pairs}
 
 -- the run after records, one after the other

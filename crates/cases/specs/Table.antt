@@ -1,6 +1,6 @@
 -- Made by tools/cases. The table of worked cases: records as bytes, and what documents 01 and 02 say that they show; "starred" are the cases that document 01 marks. Assumes nothing.
 use Rattle.std.specs.Prelude.{ℕ, ◌≡◌, refl, List, [], ◌∷◌, map}
-use Rattle.calls.specs.Computes.{computes}
+use Rattle.calls.proofs.Computes.{computes}
 use Rattle.model.specs.Value.{value}
 use Rattle.model.specs.Matching.{Tuple}
 use Rattle.model.specs.Run.{Space, shared, private}

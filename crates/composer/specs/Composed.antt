@@ -17,8 +17,8 @@ use Rattle.model.specs.Statement.{Statement}
 use Rattle.model.specs.Reading.{branch}
 use Rattle.model.specs.Legal.{legal_statement}
 use Rattle.model.specs.Writing.{operation_bytes, statement_bytes}
-use Rattle.model.specs.RoundTrip.{FitsOperation, FitsStatement}
-use Rattle.model.specs.ReadBack.{several_length, parse_parts}
+use Rattle.model.proofs.RoundTrip.{FitsOperation, FitsStatement}
+use Rattle.model.proofs.ReadBack.{several_length, parse_parts}
 use Rattle.statements.specs.declared.Operation.{Operation}
 use Rattle.statements.specs.Flat.{operation_is}
 use Rattle.walk.specs.BodyParts.{body_parts}

@@ -11,7 +11,7 @@ use Rattle.basis.specs.PadLaws.{flat_map_append}
 use Rattle.basis.specs.Sizes.{host_width, process_width, processes, branch_count_at, branches_at}
 use Rattle.model.specs.Statement.{Operation, Branch, operations, Statement}
 use Rattle.model.specs.Writing.{counted_bytes, operation_bytes, branch_bytes, statement_bytes}
-use Rattle.model.specs.RoundTrip.{FitsOperation, FitsBranch, FitsStatement}
+use Rattle.model.proofs.RoundTrip.{FitsOperation, FitsBranch, FitsStatement}
 use Rattle.writer.specs.Writer.{begun, in_last, with_operation, with_branch}
 use Rattle.writer.specs.WriterLaws.{in_last_length}
 use Rattle.parts.specs.Fields.{flat_map_one}

@@ -11,7 +11,7 @@ use Rattle.model.specs.Reading.{operation}
 use Rattle.model.specs.Legal.{Kinds, bind_kinds, fields_of, legal_operation, legal_operations}
 use Rattle.model.specs.Matching.{Tuple, Bindings}
 use Rattle.model.specs.Execution.{Result, done, failed, perform, and_then, perform_all}
-use Rattle.model.specs.BoundKinds.{Agree}
+use Rattle.model.proofs.BoundKinds.{Agree}
 use Rattle.statements.specs.declared.OperationRead.{OperationRead}
 use Rattle.statements.specs.Flat.{operation_is, Reads, operation_at}
 use Rattle.tuples.specs.Section as Section

@@ -14,7 +14,7 @@ use Rattle.model.specs.Reading.{◌>>=◌, give, several, branch}
 use Rattle.model.specs.Legal.{no_kinds, legal_operations, legal_branch}
 use Rattle.model.specs.Matching.{Tuple, Bindings, unbound}
 use Rattle.model.specs.Execution.{Result, perform_all, chosen, Executed, execute, attempt, tuples_after}
-use Rattle.model.specs.BoundKinds.{agree_unbound}
+use Rattle.model.proofs.BoundKinds.{agree_unbound}
 use Rattle.statements.specs.declared.OperationRead.{OperationRead}
 use Rattle.statements.specs.Flat.{operation_is, Reads, operation_at}
 use Rattle.words.specs.Over.{over}

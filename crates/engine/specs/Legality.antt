@@ -12,12 +12,12 @@ use Rattle.model.specs.Value.{Value}
 use Rattle.model.specs.Statement.{Field, sum, difference, Operation, always, lookup, deposit, transfer}
 use Rattle.model.specs.Legal.{Kinds, kind_in, summable, legal_parts, bind_kind, bind_kinds, legal_fields, fields_of, is_space, field_count, legal_operation}
 use Rattle.model.specs.Matching.{Tuple, Bindings, matches, oldest}
-use Rattle.model.specs.MatchingLaws.{matched}
-use Rattle.model.specs.BinderLaws.{legal_parts_lem}
+use Rattle.model.proofs.MatchingLaws.{matched}
+use Rattle.model.proofs.BinderLaws.{legal_parts_lem}
 use Rattle.model.specs.Execution.{Result, done, failed, looked_up, made_all, appended, perform}
-use Rattle.model.specs.ValidLaws.{tuple_values}
-use Rattle.model.specs.BoundKinds.{Agree, agree_at, agree_bind, fields_cons, binds_nothing, summed, made_all_legal}
-use Rattle.model.specs.Keeps.{legal_tuple_lem}
+use Rattle.model.proofs.ValidLaws.{tuple_values}
+use Rattle.model.proofs.BoundKinds.{Agree, agree_at, agree_bind, fields_cons, binds_nothing, summed, made_all_legal}
+use Rattle.model.proofs.Keeps.{legal_tuple_lem}
 use Rattle.tuples.specs.Section as Section
 use Rattle.bindings.specs.Making.{CanMake}
 use Rattle.operations.specs.Performing.{CanDeposit}

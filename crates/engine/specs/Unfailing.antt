@@ -15,7 +15,7 @@ use Rattle.model.specs.Statement.{actual, formal, reference, sum, difference, an
 use Rattle.model.specs.Matching.{Tuple, Bindings, value_of, selects}
 use Rattle.model.specs.Execution.{failed, made, made_all, appended, in_space, moved, perform, and_then, perform_all}
 use Rattle.model.specs.Reading.{◌>>=◌, give, natural, counted, chosen_by, field, on_space, on_spaces, operation}
-use Rattle.model.specs.ReadBack.{then_some}
+use Rattle.model.proofs.ReadBack.{then_some}
 use Rattle.statements.specs.At.{which}
 use Rattle.statements.specs.Fixed.{fixed_byte}
 use Rattle.statements.specs.Operations.{suffix_operation}

@@ -17,7 +17,7 @@ use Rattle.layout.specs.States.{decode}
 use Rattle.layout.specs.Stored.{IsStored, Turned}
 use Rattle.order.specs.Refusal.{refusal}
 use Rattle.calls.specs.Calls.{number_of}
-use Rattle.calls.specs.CallLaws.{numbered}
+use Rattle.calls.proofs.CallLaws.{numbered}
 use Rattle.replies.specs.Written.{reply, Wrote}
 use Rattle.replies.specs.TurnLaws.{one_reply, turned_one}
 use Rattle.framing.specs.FrameLaws.{record_parts}

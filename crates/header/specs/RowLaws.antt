@@ -11,7 +11,7 @@ use Rattle.basis.specs.Numbers.{big_endian, number_at, mask, bits}
 use Rattle.basis.specs.NumberLaws.{big_endian_length, one_byte}
 use Rattle.basis.specs.Sizes.{position_width, mask_width, count_width, next_width, tuple_count_width, hosts, most_monitors, last_at, mask_at, monitors_at, next_at, space_count_at, tuple_count_at, waiting_count_at, owed_at, header_used, header_size, space_size, tuple_size, waiting_size, spaces_size, tuples_size, waiting_all_size, spaces_at, tuples_at, waiting_at}
 use Rattle.model.specs.Run.{Run, with_last, with_up, with_monitors, with_owed, owed_mask}
-use Rattle.model.specs.Fit.{Fit}
+use Rattle.model.proofs.Fit.{Fit}
 use Rattle.layout.specs.States.{hosts_bytes, owed_bytes, header_bytes, space_bytes, tuple_bytes, waiting_bytes, area, encode, byte_at, space_read, tuple_read, waiting_read, hosts_at, decode}
 use Rattle.layout.specs.StateLaws.{area_length, encode_length}
 use Rattle.layout.specs.Stored.{Stored}

@@ -13,7 +13,7 @@ use Rattle.basis.specs.Choice.{provided}
 use Rattle.basis.specs.Lists.{Found, first_from, first}
 use Rattle.basis.specs.Sizes.{most_fields}
 use Rattle.model.specs.Value.{Value, range, is_within}
-use Rattle.model.specs.OrderLaws.{within_exactly}
+use Rattle.model.proofs.OrderLaws.{within_exactly}
 use Rattle.model.specs.Matching.{Tuple, TemplateField, same_count, each_pair, same_kind, same_kinds, same_value, same_values, Mismatch, mismatch_number, first_mismatch, same_space, is_match}
 use Rattle.sections.specs.Shapes.{items_length}
 use Rattle.tuples.specs.Section.{tuple_shape, tuple_at, tuples_of}

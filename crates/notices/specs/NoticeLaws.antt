@@ -7,10 +7,10 @@ use Rattle.basis.specs.Logic.{both, true_is}
 use Rattle.basis.specs.ListLaws.{each_nil, each-cons}
 use Rattle.basis.specs.Sizes.{positions, most_tuples, failure_fields}
 use Rattle.model.specs.Value.{value, whole, name, legal_value}
-use Rattle.model.specs.BoundKinds as Kinds
-use Rattle.model.specs.Keeps.{legal_tuple_lem}
+use Rattle.model.proofs.BoundKinds as Kinds
+use Rattle.model.proofs.Keeps.{legal_tuple_lem}
 use Rattle.model.specs.Run.{Run, failure_tuple, has_room, noticed}
-use Rattle.model.specs.Effects.{noticed_fit}
+use Rattle.model.proofs.Effects.{noticed_fit}
 use Rattle.layout.specs.States.{tuple_read, decode}
 use Rattle.layout.specs.Stored.{Stored, IsStored}
 use Rattle.header.specs.Rows.{tuple_count_part, tuples_part, with_row, with_part, tuples_lent}

@@ -5,8 +5,8 @@ use Rattle.basis.specs.Numbers.{mask, bits}
 use Rattle.basis.specs.Sizes.{hosts, most_monitors}
 use Rattle.model.specs.Run.{Run, has_room, noticed, owed_mask, is_owed, set_owed, laid_one}
 use Rattle.model.specs.Step.{notified}
-use Rattle.model.specs.Debts.{mask_wide}
-use Rattle.model.specs.Effects.{owed_fit}
+use Rattle.model.proofs.Debts.{mask_wide}
+use Rattle.model.proofs.Effects.{owed_fit}
 use Rattle.layout.specs.States.{decode}
 use Rattle.layout.specs.Stored.{Stored, IsStored}
 use Rattle.header.specs.Rows.{owed_part, with_row}

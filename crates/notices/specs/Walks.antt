@@ -10,7 +10,7 @@ use Rattle.basis.specs.Sizes.{hosts}
 use Rattle.model.specs.Run.{Run, monitor_numbers, has_room, noticed, set_owed, is_owed, owes_some, laid_one, laid_for, laid}
 use Rattle.model.specs.Step.{dropped, notified, crashed}
 use Rattle.model.specs.Valid.{owes_only_full}
-use Rattle.model.specs.Debts.{laid_still}
+use Rattle.model.proofs.Debts.{laid_still}
 use Rattle.layout.specs.States.{decode}
 use Rattle.layout.specs.Stored.{Stored, IsStored}
 use Rattle.header.specs.StoredLaws.{stored_says}

@@ -19,7 +19,7 @@ use Rattle.model.specs.Statement as Model
 use Rattle.model.specs.Statement.{deposit, transfer}
 use Rattle.model.specs.Valid.{legal_tuple}
 use Rattle.model.specs.Matching.{Tuple, Bindings, template, is_match, selected, matches, selects, oldest, bind}
-use Rattle.model.specs.MatchingLaws.{matched}
+use Rattle.model.proofs.MatchingLaws.{matched}
 use Rattle.model.specs.Execution.{Result, done, failed, looked_up, made_all, appended, in_space, moved, perform}
 use Rattle.matching.specs.declared.Template.{Template}
 use Rattle.matching.specs.declared.Found as declared

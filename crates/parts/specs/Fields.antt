@@ -13,7 +13,7 @@ use Rattle.model.specs.Value.{value}
 use Rattle.model.specs.Statement as model
 use Rattle.model.specs.Statement.{actual, formal, reference, sum, difference, anonymous, ranged}
 use Rattle.model.specs.Writing.{value_bytes, field_bytes}
-use Rattle.model.specs.RoundTrip.{FitsField}
+use Rattle.model.proofs.RoundTrip.{FitsField}
 use Rattle.statements.specs.declared.Field.{Field}
 use Rattle.statements.specs.Flat.{forms, field_of, field_is, fields_are}
 use Rattle.parts.specs.Puts.{Puts, puts_none, puts_byte, puts_over, puts_then, puts_as, puts_two, puts_three}

@@ -18,7 +18,7 @@ use Rattle.model.specs.Statement as model
 use Rattle.model.specs.Statement.{spaces_of}
 use Rattle.model.specs.Legal.{is_space, fields_of}
 use Rattle.model.specs.Writing.{counted_bytes, field_bytes, lookup_code, transfer_code, operation_bytes}
-use Rattle.model.specs.RoundTrip.{FitsField, FitsOperation, legal_space}
+use Rattle.model.proofs.RoundTrip.{FitsField, FitsOperation, legal_space}
 use Rattle.statements.specs.declared.Field.{Field}
 use Rattle.statements.specs.declared.Operation.{Operation}
 use Rattle.statements.specs.Flat.{codes, field_is, fields_are, operation_of, operation_is}

@@ -22,7 +22,7 @@ use Rattle.basis.specs.Sizes.{position_width, length_width, process_width, proce
 use Rattle.model.specs.Statement.{Statement}
 use Rattle.model.specs.Legal.{parse, legal_body}
 use Rattle.model.specs.Writing.{statement_bytes}
-use Rattle.model.specs.ReadBack.{parse_parts, parse_some}
+use Rattle.model.proofs.ReadBack.{parse_parts, parse_some}
 use Rattle.model.specs.Run.{Waiting}
 use Rattle.layout.specs.States.{waiting_bytes, area, no_statement, waiting_read, entries}
 use Rattle.layout.specs.Stored.{statement_of, legal_parse}

@@ -10,7 +10,7 @@ use Rattle.basis.specs.PadLaws.{take_past, number_at_pad}
 use Rattle.basis.specs.Sizes.{position_width, length_width, host_width, process_width, process_at, hosts, processes, most_body, waiting_length_at, waiting_body_at, waiting_size}
 use Rattle.model.specs.Legal.{parse}
 use Rattle.model.specs.Writing.{statement_bytes}
-use Rattle.model.specs.ReadBack.{parse_some}
+use Rattle.model.proofs.ReadBack.{parse_some}
 use Rattle.model.specs.Run.{Waiting}
 use Rattle.layout.specs.States.{waiting_bytes, no_statement}
 use Rattle.sections.specs.RowLaws.{number_in_lem, take_drop_take}

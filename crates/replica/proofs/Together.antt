@@ -1,6 +1,6 @@
 -- What is proved of the functions for C, beside the claim over two replicas. Assumes nothing.
 use Rattle.calls.specs.TwoReplicas.{Demand3}
-use Rattle.calls.specs.Theorem.{theorem}
+use Rattle.calls.proofs.Theorem.{theorem}
 use Rattle.replica.proofs.replica_fresh.Statement.{statement as FreshMeets}
 use Rattle.replica.proofs.replica_fresh.Met.{met as fresh-Meets}
 use Rattle.replica.proofs.replica_take.Statement.{statement as TakeMeets}

@@ -16,12 +16,12 @@ use Rattle.basis.specs.ListLaws.{none_at}
 use Rattle.basis.specs.Sizes.{most_waiting, most_reply}
 use Rattle.model.specs.Statement.{Statement, spaces_named}
 use Rattle.model.specs.Legal.{legal_body}
-use Rattle.model.specs.ReadBack.{parse_again}
+use Rattle.model.proofs.ReadBack.{parse_again}
 use Rattle.model.specs.Execution.{can_wait, Executed, attempt, tuples_after}
 use Rattle.model.specs.Run.{Run, with_tuples, host_up, is_open, is_denied, is_waiting, Reply, ran_reply, Turn}
 use Rattle.model.specs.Step.{guarded, standing, access, checks, plain_reply, refused, unmet, ran, effect}
-use Rattle.model.specs.Fit.{Fit, Waits}
-use Rattle.model.specs.Effects.{unmet_fit}
+use Rattle.model.proofs.Fit.{Fit, Waits}
+use Rattle.model.proofs.Effects.{unmet_fit}
 use Rattle.layout.specs.Replies.{replies_bytes}
 use Rattle.layout.specs.ReplyLaws.{reply_length}
 use Rattle.layout.specs.States.{decode}

@@ -9,7 +9,7 @@ use Rattle.model.specs.Step.{Mark, Record, mark_of, record_of, step}
 use Rattle.layout.specs.States.{decode}
 use Rattle.layout.specs.Stored.{Stored, IsStored, Turned}
 use Rattle.calls.specs.Calls.{Bytes, number_of, step_bytes}
-use Rattle.calls.specs.CallLaws.{numbered}
+use Rattle.calls.proofs.CallLaws.{numbered}
 use Rattle.header.specs.StoredLaws.{stored_says}
 use Rattle.framing.specs.Marks.{mark_code, mark_number, mark_at}
 use Rattle.framing.specs.MarkLaws.{mark_at_code, code_positive}

@@ -6,7 +6,7 @@ use Rattle.std.proofs.Math.Option.{Option, none, some}
 use Rattle.basis.specs.Choice.{maybe}
 use Rattle.basis.specs.Logic.{is_true}
 use Rattle.basis.specs.Sizes.{reply_size}
-use Rattle.model.specs.Fit.{sound_fit}
+use Rattle.model.proofs.Fit.{sound_fit}
 use Rattle.layout.specs.States.{decode}
 use Rattle.layout.specs.StateLaws.{state_encode}
 use Rattle.layout.specs.StateSound.{state_sound}
@@ -14,8 +14,8 @@ use Rattle.layout.specs.IsState.{is_state}
 use Rattle.layout.specs.Stored.{IsStored, Turned}
 use Rattle.header.specs.RowLaws.{is_stored}
 use Rattle.calls.specs.Calls.{Lent, lent, answer, number_of, refusal_at, refusal, step_bytes, laid_over, turned_back, taken, take_call}
-use Rattle.calls.specs.CallLaws.{passes_next}
-use Rattle.calls.specs.ReturnLaws.{refusal_number, refusal_none}
+use Rattle.calls.proofs.CallLaws.{passes_next}
+use Rattle.calls.proofs.ReturnLaws.{refusal_number, refusal_none}
 use Rattle.order.specs.Refusal.{number_or0}
 
 -- ---- checks 1 to 5

@@ -14,7 +14,7 @@ use Rattle.model.specs.Statement.{Statement}
 use Rattle.model.specs.Reading.{operation, branch}
 use Rattle.model.specs.Legal.{legal_branch, legal_statement, legal_body}
 use Rattle.model.specs.Writing.{statement_bytes}
-use Rattle.model.specs.ReadBack.{BodyOf, parse_parts}
+use Rattle.model.proofs.ReadBack.{BodyOf, parse_parts}
 use Rattle.layout.specs.Stored.{statement_of, legal_parse}
 use Rattle.statements.specs.declared.OperationRead.{OperationRead}
 use Rattle.statements.specs.Flat.{operation_is, Reads, operation_at}

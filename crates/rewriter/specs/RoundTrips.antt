@@ -16,8 +16,8 @@ use Rattle.model.specs.Statement as model
 use Rattle.model.specs.Statement.{Branch, Statement}
 use Rattle.model.specs.Legal.{legal_statement, parse}
 use Rattle.model.specs.Writing.{statement_bytes}
-use Rattle.model.specs.RoundTrip.{parse_written}
-use Rattle.model.specs.ReadBack.{parse_parts}
+use Rattle.model.proofs.RoundTrip.{parse_written}
+use Rattle.model.proofs.ReadBack.{parse_parts}
 use Rattle.statements.specs.declared.Operation.{Operation}
 use Rattle.writer.specs.Writer.{handed, begun, with_operation, with_branch, Written, is_writable, filled_with, written, held, begin_on, add_to, add_operation, add_branch}
 use Rattle.writer.specs.WriterLaws.{written_legal, begin_filled, add_filled, filled_held}

@@ -11,9 +11,9 @@ use Rattle.model.specs.Matching.{Tuple}
 use Rattle.model.specs.Execution.{Executed, attempt, tuples_after}
 use Rattle.model.specs.Run.{Run, with_tuples, bound_from, outcome_of, values_of}
 use Rattle.model.specs.Step.{ran}
-use Rattle.model.specs.Fit.{Fit}
-use Rattle.model.specs.Effects.{ran_fit}
-use Rattle.model.specs.ReadBack.{parse_again}
+use Rattle.model.proofs.Fit.{Fit}
+use Rattle.model.proofs.Effects.{ran_fit}
+use Rattle.model.proofs.ReadBack.{parse_again}
 use Rattle.layout.specs.States.{decode}
 use Rattle.layout.specs.Stored.{IsStored, statement_of, legal_parse}
 use Rattle.header.specs.Rows.{tuple_count_part, tuples_part, with_row, with_part, tuples_lent}

@@ -19,7 +19,7 @@ use Rattle.basis.specs.NumberLaws.{big_endian_length, number_big_endian, number_
 use Rattle.basis.specs.Sizes.{space_width, kind_width, process_width, most_spaces, space_kind_at, space_owner_at, space_size, spaces_size}
 use Rattle.model.specs.Run.{Access, shared, private, Space}
 use Rattle.model.specs.Valid.{is_shared}
-use Rattle.model.specs.Sound.{OwnerFits}
+use Rattle.model.proofs.Sound.{OwnerFits}
 use Rattle.layout.specs.States.{access_bytes, space_bytes, area, byte_at, space_read, entries}
 use Rattle.words.specs.Over.{zeros_at}
 use Rattle.words.specs.ZeroLaws.{zerosAt→zeros, zeros→zerosAt}

@@ -7,7 +7,7 @@ use Rattle.basis.specs.NumberLaws.{one_byte}
 use Rattle.basis.specs.Sizes.{count_width, space_size, waiting_size, spaces_size, waiting_all_size}
 use Rattle.model.specs.Matching.{Tuple}
 use Rattle.model.specs.Run.{Space, Waiting, Run, with_spaces, with_tuples, with_waiting}
-use Rattle.model.specs.Fit.{Fit}
+use Rattle.model.proofs.Fit.{Fit}
 use Rattle.layout.specs.States.{space_bytes, waiting_bytes, area}
 use Rattle.layout.specs.Stored.{Stored}
 use Rattle.header.specs.Rows.{parts_of, space_count_part, tuple_count_part, waiting_count_part, spaces_part, tuples_part, waiting_part, Cut, with_row, with_part}

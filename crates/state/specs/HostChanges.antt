@@ -9,8 +9,8 @@ use Rattle.basis.specs.Numbers.{mask, bits}
 use Rattle.basis.specs.Sizes.{hosts, most_monitors}
 use Rattle.model.specs.Run.{Run, with_up, with_monitors, host_up, next_monitor, monitors_used_up}
 use Rattle.model.specs.Step.{recovered}
-use Rattle.model.specs.Fit.{Fit}
-use Rattle.model.specs.Effects.{recovered_fit, monitored_fit, queue_in}
+use Rattle.model.proofs.Fit.{Fit}
+use Rattle.model.proofs.Effects.{recovered_fit, monitored_fit, queue_in}
 use Rattle.layout.specs.States.{decode}
 use Rattle.layout.specs.Stored.{Stored, IsStored}
 use Rattle.header.specs.Rows.{mask_part, monitors_part, with_row}

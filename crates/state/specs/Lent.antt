@@ -4,8 +4,8 @@ use Rattle.std.proofs.Math.Path.{refl}
 use Rattle.std.proofs.Common.{arith}
 use Rattle.basis.specs.ListLaws.{Each}
 use Rattle.model.specs.Run.{Run}
-use Rattle.model.specs.Fit.{Fit}
-use Rattle.model.specs.SpaceLaws.{open_below}
+use Rattle.model.proofs.Fit.{Fit}
+use Rattle.model.proofs.SpaceLaws.{open_below}
 use Rattle.layout.specs.States.{decode}
 use Rattle.layout.specs.Stored.{IsStored}
 use Rattle.sections.specs.Shapes.{holds, holds_read}

@@ -4,8 +4,8 @@ use Rattle.basis.specs.Lists.{keep, remove_at}
 use Rattle.basis.specs.ListLaws.{keep_in}
 use Rattle.model.specs.Statement.{Statement}
 use Rattle.model.specs.Run.{Waiting, Run, with_waiting}
-use Rattle.model.specs.Fit.{Queue, Fit}
-use Rattle.model.specs.Effects.{queue_keep, queue_remove_at}
+use Rattle.model.proofs.Fit.{Queue, Fit}
+use Rattle.model.proofs.Effects.{queue_keep, queue_remove_at}
 use Rattle.layout.specs.States.{decode}
 use Rattle.layout.specs.Stored.{Stored, IsStored}
 use Rattle.header.specs.Rows.{waiting_count_part, waiting_part, with_row, with_part, queue_lent}

@@ -10,8 +10,8 @@ use Rattle.basis.specs.Sizes.{count_width, next_width, processes, most_spaces, s
 use Rattle.model.specs.Matching.{Tuple}
 use Rattle.model.specs.Run.{Space, Run, with_spaces, with_tuples}
 use Rattle.model.specs.Step.{some_waiting_names, opened, closed}
-use Rattle.model.specs.Fit.{Fit}
-use Rattle.model.specs.Effects.{opened_fit, closed_fit}
+use Rattle.model.proofs.Fit.{Fit}
+use Rattle.model.proofs.Effects.{opened_fit, closed_fit}
 use Rattle.layout.specs.States.{space_bytes, area, decode}
 use Rattle.layout.specs.Stored.{Stored, IsStored}
 use Rattle.header.specs.Rows.{parts_of, next_part, space_count_part, spaces_part, Cut, with_row, with_part, spaces_lent}

@@ -4,9 +4,9 @@ use Rattle.std.proofs.Common.{arith}
 use Rattle.basis.specs.Lists.{keep}
 use Rattle.basis.specs.ListLaws.{keep_in, keep_few}
 use Rattle.model.specs.Matching.{Tuple}
-use Rattle.model.specs.Keeps.{Kept}
+use Rattle.model.proofs.Keeps.{Kept}
 use Rattle.model.specs.Run.{Run, with_tuples}
-use Rattle.model.specs.Fit.{Fit}
+use Rattle.model.proofs.Fit.{Fit}
 use Rattle.layout.specs.States.{decode}
 use Rattle.layout.specs.Stored.{Stored, IsStored}
 use Rattle.header.specs.Rows.{tuple_count_part, tuples_part, with_row, with_part, tuples_lent}

@@ -5,7 +5,7 @@ ghost use Rattle.basis.specs.Sizes.{hosts, most_waiting, most_spaces, space_numb
 ghost use Rattle.model.specs.Legal.{legal_body};
 ghost use Rattle.model.specs.Run.{with_last, with_up, with_monitors, with_spaces, with_tuples, with_waiting, host_up, next_monitor, monitors_used_up};
 ghost use Rattle.model.specs.Step.{some_waiting_names, recovered, dropped, opened, closed};
-ghost use Rattle.model.specs.Fit.{Fit};
+ghost use Rattle.model.proofs.Fit.{Fit};
 ghost use Rattle.layout.specs.States.{decode};
 ghost use Rattle.layout.specs.Stored.{Stored, IsStored, statement_of};
 ghost use Rattle.spaces.specs.Spaces.{other_than};

@@ -4,7 +4,7 @@ use Rattle.std.proofs.Common.{sym, ap, ◌∙◌, arith, inl, inr, length-drop, 
 use Rattle.std.proofs.Math.Option.{Option, none, some, some-injective, none-ne-some}
 use Rattle.basis.specs.Choice.{maybe, provided}
 use Rattle.model.specs.Reading.{Reader, ◌>>=◌, give, refuse, byte, several, counted}
-use Rattle.model.specs.ReadBack.{then_some}
+use Rattle.model.proofs.ReadBack.{then_some}
 
 -- what was read of some bytes, with the position of what is left
 abbrev pub placed : {A : Type 0} → List ℕ → Option (A × List ℕ) → Option (A × ℕ)

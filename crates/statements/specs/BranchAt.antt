@@ -5,7 +5,7 @@ use Rattle.std.proofs.Math.Option.{some, some-injective, none-ne-some}
 use Rattle.basis.specs.Sizes.{count_width}
 use Rattle.model.specs.Statement.{Operation, Branch}
 use Rattle.model.specs.Reading.{◌>>=◌, give, byte, several, counted, operation, branch}
-use Rattle.model.specs.ReadBack.{then_some, several_length}
+use Rattle.model.proofs.ReadBack.{then_some, several_length}
 use Rattle.statements.specs.At.{which, suffix_at}
 use Rattle.statements.specs.Fixed.{fixed_byte}
 use Rattle.statements.specs.Operations.{suffix_operation}

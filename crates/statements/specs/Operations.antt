@@ -12,7 +12,7 @@ use Rattle.model.specs.Statement as model
 use Rattle.model.specs.Statement.{always, lookup, deposit, transfer}
 use Rattle.model.specs.Legal.{fields_of}
 use Rattle.model.specs.Reading.{Reader, ◌>>=◌, give, refuse, byte, natural, several, counted, chosen_by, field, on_space, on_spaces, operation}
-use Rattle.model.specs.ReadBack.{several_length}
+use Rattle.model.proofs.ReadBack.{several_length}
 use Rattle.statements.specs.At.{which, Suffix, suffix_give, suffix_refuse, suffix_byte, suffix_then, suffix_last, suffix_counted, placed, read_at, passed, some_read_at}
 use Rattle.statements.specs.Fixed.{fixed_byte, fixed_natural}
 use Rattle.statements.specs.Several.{suffix_field}

@@ -3,7 +3,7 @@ use Rattle.std.specs.Prelude.{ℕ, ◌≡◌, Bool, true, false, T}
 use Rattle.std.proofs.Common.{sym, ap, ◌∙◌}
 use Rattle.std.proofs.Math.Option.{Option, none, some}
 use Rattle.model.specs.Value.{value, legal_value}
-use Rattle.model.specs.SumLaws.{plus_legal, minus_legal}
+use Rattle.model.proofs.SumLaws.{plus_legal, minus_legal}
 use Rattle.values.specs.declared.Value.{Value}
 use Rattle.values.specs.Meaning.{value_is, answered}
 use Rattle.values.specs.Answers.{answered_given}

@@ -13,15 +13,15 @@ use Rattle.basis.specs.Sizes.{hosts, processes, positions, process_width, most_w
 use Rattle.model.specs.Value.{Value}
 use Rattle.model.specs.Statement.{Statement}
 use Rattle.model.specs.Legal.{legal_statement}
-use Rattle.model.specs.ReadBack.{parse_some}
+use Rattle.model.proofs.ReadBack.{parse_some}
 use Rattle.model.specs.Execution.{can_wait, Executed, attempt, ready}
 use Rattle.model.specs.Run.{Waiting, Run, with_last, with_monitors, next_monitor, laid, Reply, ran_reply, Turn, woken_by, wake, continued, settle_within, settle}
-use Rattle.model.specs.Debts.{laid_waiting, crashed_beside}
-use Rattle.model.specs.Settle.{wake_some}
+use Rattle.model.proofs.Debts.{laid_waiting, crashed_beside}
+use Rattle.model.proofs.Settle.{wake_some}
 use Rattle.model.specs.Step.{Mark, RV, CR, MO, MS, DS, AG, Record, Request, recover, crash, monitor, open_space, close_space, guarded, request_of, checks, asking_host, asking_process, plain_reply, refused, malformed, replied, recovered, dropped, crashed, opened, closed, unmet, ran, effect, settled, handled, step}
-use Rattle.model.specs.BodyLaws.{HostProcess, body_iff}
-use Rattle.model.specs.Sound.{Sound}
-use Rattle.model.specs.ValidLaws.{valid_position}
+use Rattle.model.proofs.BodyLaws.{HostProcess, body_iff}
+use Rattle.model.proofs.Sound.{Sound}
+use Rattle.model.proofs.ValidLaws.{valid_position}
 use Rattle.text.specs.Written.{Fits}
 
 -- ---- who asks

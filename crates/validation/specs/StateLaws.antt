@@ -14,7 +14,7 @@ use Rattle.model.specs.Matching.{Tuple}
 use Rattle.model.specs.Execution.{can_wait}
 use Rattle.model.specs.Run.{Space, Waiting, host_up}
 use Rattle.model.specs.Valid.{counts_fit, legal_tuple, spaces_rise, waiting_rise, zero_shared, spaces_below_next, tuples_in_open, positions_fit, bodies_legal, waiting_hosts_up, processes_differ, open_to_process, named_spaces_open, waiting_can_wait, none_ready, valid_run}
-use Rattle.model.specs.ValidLaws.{valid_counts, valid_tuples, valid_spaces_rise, valid_waiting_rise, valid_zero, valid_below_next, valid_in_open, valid_positions, valid_bodies, valid_hosts_up, valid_processes, valid_named_open, valid_can_wait, valid_none_ready, valid_given, valid_only_full, valid_of}
+use Rattle.model.proofs.ValidLaws.{valid_counts, valid_tuples, valid_spaces_rise, valid_waiting_rise, valid_zero, valid_below_next, valid_in_open, valid_positions, valid_bodies, valid_hosts_up, valid_processes, valid_named_open, valid_can_wait, valid_none_ready, valid_given, valid_only_full, valid_of}
 use Rattle.layout.specs.States.{space_bytes, tuple_bytes, waiting_bytes, area, encode, decode}
 use Rattle.layout.specs.IsState.{is_state}
 use Rattle.layout.specs.StateLaws.{state_encode, state_valid}

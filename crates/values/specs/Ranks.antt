@@ -5,7 +5,7 @@ use Rattle.std.proofs.Common.{arith}
 use borrow.Author.Tests.{leb-true, leb-false, le-leb, lt-leb, eq-eqb, ne_eqb}
 use Rattle.rounding.specs.Parts.{sign}
 use Rattle.model.specs.Value.{metres, is_negative, at_most}
-use Rattle.model.specs.OrderLaws.{ordered}
+use Rattle.model.proofs.OrderLaws.{ordered}
 
 -- negative values come before the others, negative metres, whose bits are their size, the other way round
 abbrev ranked : (turned negative : Bool) (bits : ℕ) → ℕ

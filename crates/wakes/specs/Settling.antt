@@ -4,8 +4,8 @@ use Rattle.std.proofs.Common.{sym, ap, subst, ◌∙◌, arith, length-append, l
 use Rattle.std.proofs.Math.Option.{none, some}
 use mathlib.Core.List.{List, [], ◌++◌, flat_map, append_assoc, append-nil}
 use Rattle.model.specs.Run.{Run, laid, Reply, Turn, wake, continued, settle}
-use Rattle.model.specs.Debts.{laid_waiting}
-use Rattle.model.specs.Settle.{wake_none, wake_shorter, settle_of_calm, settle_turn}
+use Rattle.model.proofs.Debts.{laid_waiting}
+use Rattle.model.proofs.Settle.{wake_none, wake_shorter, settle_of_calm, settle_turn}
 use Rattle.layout.specs.States.{decode}
 use Rattle.layout.specs.Replies.{reply_bytes, replies_bytes}
 use Rattle.layout.specs.Stored.{Stored, Turned}

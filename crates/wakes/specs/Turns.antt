@@ -17,8 +17,8 @@ use Rattle.model.specs.Matching.{Tuple}
 use Rattle.model.specs.Statement.{Statement}
 use Rattle.model.specs.Execution.{ready, chosen, Executed, attempt, tuples_after}
 use Rattle.model.specs.Run.{Waiting, Run, with_tuples, with_waiting, laid, ran_reply, Turn, woken_by, wake}
-use Rattle.model.specs.Debts.{laid_waiting}
-use Rattle.model.specs.Settle.{attempt_none, wake_some}
+use Rattle.model.proofs.Debts.{laid_waiting}
+use Rattle.model.proofs.Settle.{attempt_none, wake_some}
 use Rattle.layout.specs.States.{decode}
 use Rattle.layout.specs.Replies.{replies_bytes}
 use Rattle.layout.specs.ReplyLaws.{reply_length}

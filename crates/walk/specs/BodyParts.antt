@@ -11,7 +11,7 @@ use Rattle.basis.specs.Sizes.{host_at, most_body, host_width, process_width, pro
 use Rattle.model.specs.Statement.{Branch, Statement}
 use Rattle.model.specs.Legal.{legal_statement, parse}
 use Rattle.model.specs.Reading.{◌>>=◌, give, byte, several, counted, whole_of, branch, statement}
-use Rattle.model.specs.ReadBack.{Parsed, parse_some}
+use Rattle.model.proofs.ReadBack.{Parsed, parse_some}
 use Rattle.statements.specs.At.{which}
 use Rattle.statements.specs.Fixed.{fixed_byte, fixed_natural}
 

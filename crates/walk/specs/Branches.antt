@@ -10,7 +10,7 @@ use Rattle.basis.specs.Choice.{maybe, provided}
 use Rattle.basis.specs.Sizes.{count_width}
 use Rattle.model.specs.Statement.{Operation, Branch}
 use Rattle.model.specs.Reading.{◌>>=◌, give, several, counted, operation, branch}
-use Rattle.model.specs.ReadBack.{several_length}
+use Rattle.model.proofs.ReadBack.{several_length}
 use Rattle.statements.specs.At.{which, placed, read_at, position, Suffix, suffix_at, suffix_last, suffix_then, suffix_counted}
 use Rattle.statements.specs.Ends.{end_at, end_of, end_of_lem, position_none}
 use Rattle.statements.specs.Fixed.{fixed_byte}

@@ -10,7 +10,7 @@ use Rattle.model.specs.Statement.{Branch, Statement}
 use Rattle.model.specs.Legal.{legal_branch, parse, legal_body}
 use Rattle.model.specs.Reading.{Reader, operation, branch}
 use Rattle.model.specs.Writing.{operation_bytes, branch_bytes}
-use Rattle.model.specs.ReadBack.{Writes, writes_operation, writes_branch}
+use Rattle.model.proofs.ReadBack.{Writes, writes_operation, writes_branch}
 use Rattle.statements.specs.At.{position}
 use Rattle.statements.specs.Flat.{operation_at}
 use Rattle.statements.specs.Front.{bare_at, bare_is}

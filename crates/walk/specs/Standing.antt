@@ -6,7 +6,7 @@ use Rattle.basis.specs.Choice.{maybe}
 use Rattle.basis.specs.Logic.{and_l, and_r}
 use Rattle.basis.specs.Lists.{all}
 use Rattle.model.specs.Reading.{Reader, ◌>>=◌, give, several}
-use Rattle.model.specs.ReadBack.{then_some}
+use Rattle.model.proofs.ReadBack.{then_some}
 use Rattle.statements.specs.At.{Suffix, suffix_at}
 
 -- so many things from a position on, and the bytes left after them

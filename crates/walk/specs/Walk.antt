@@ -9,7 +9,7 @@ use Rattle.basis.specs.Sizes.{hosts, host_at, count_width, branch_count_at, bran
 use Rattle.model.specs.Statement.{Operation, Branch, Statement}
 use Rattle.model.specs.Legal.{legal_branch, legal_statement, legal_body}
 use Rattle.model.specs.Reading.{several, operation, branch}
-use Rattle.model.specs.ReadBack.{several_length}
+use Rattle.model.proofs.ReadBack.{several_length}
 use Rattle.layout.specs.Stored.{statement_of, legal_parse}
 use Rattle.statements.specs.At.{passed, some_read_at, found, position, suffix_at, suffix_several}
 use Rattle.statements.specs.Ends.{end_at, end_of_lem, position_is}

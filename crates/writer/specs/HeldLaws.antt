@@ -8,7 +8,7 @@ use Rattle.basis.specs.Logic.{true_is}
 use Rattle.basis.specs.Sizes.{most_body}
 use Rattle.model.specs.Statement.{Statement}
 use Rattle.model.specs.Legal.{legal_statement, parse, legal_body}
-use Rattle.model.specs.ReadBack.{parse_some}
+use Rattle.model.proofs.ReadBack.{parse_some}
 use Rattle.statements.specs.declared.Operation.{Operation}
 use Rattle.statements.specs.Flat.{operation_is}
 use Rattle.writer.specs.Writer.{is_handed, handed, held}

@@ -12,7 +12,7 @@ use Rattle.model.specs.Statement as model
 use Rattle.model.specs.Statement.{Branch, Statement}
 use Rattle.model.specs.Legal.{legal_statement, parse, legal_body}
 use Rattle.model.specs.Writing.{statement_bytes}
-use Rattle.model.specs.RoundTrip.{parse_written}
+use Rattle.model.proofs.RoundTrip.{parse_written}
 use Rattle.statements.specs.declared.Operation.{Operation}
 use Rattle.writer.specs.Writer.{handed, begun, in_last, Written, is_writable, refused_by, filled_with, written, held, begin_on, add_to}
 

@@ -2,7 +2,7 @@
 use mathlib.Core.Path.{sym}
 use borrow.Author.Rules.{rules}
 use Rattle.model.specs.Value.{value}
-use Rattle.model.specs.BinderLaws.{values_left}
+use Rattle.model.proofs.BinderLaws.{values_left}
 use Rattle.statements.specs.Flat.{field_is}
 use Rattle.statements.specs.Binds.{binds_some, binds_none}
 use Rattle.bindings.specs.Variables.{bindings_of, Sixteen}

@@ -3,7 +3,7 @@ use mathlib.Core.Path.{sym, ◌∙◌}
 use native.Mathlib.Omega.{arith}
 use borrow.Author.Rules.{rules}
 use Rattle.model.specs.Statement.{Binder}
-use Rattle.model.specs.BinderLaws as laws
+use Rattle.model.proofs.BinderLaws as laws
 use Rattle.statements.specs.Flat.{field_is}
 use Rattle.statements.specs.Binds.{binder_in, binds_some, binds_none}
 use Rattle.fields.specs.Kinds.{kinds_are, kinds_set}

@@ -3,7 +3,7 @@ use mathlib.Core.Path.{sym, ◌∙◌}
 use borrow.Author.Tests.{not-true, not-false}
 use borrow.Author.Rules.{rules}
 use Rattle.basis.specs.Logic.{true_is}
-use Rattle.model.specs.BinderLaws.{legal_binder_lem}
+use Rattle.model.proofs.BinderLaws.{legal_binder_lem}
 use Rattle.statements.specs.Flat.{field_is}
 use Rattle.fields.specs.Kinds.{kinds_are}
 use Rattle.fields.specs.Stepped.{stepped_refused, stepped_legal}

@@ -1,6 +1,6 @@
 -- `state::set_last` meets its contract. Assumes nothing.
 use native.Mathlib.Omega.{arith}
-use Rattle.model.specs.Preserve.{later_fit}
+use Rattle.model.proofs.Preserve.{later_fit}
 use Rattle.header.specs.RowLaws.{last_changed}
 use borrow.Author.Rules.{rules}
 use Rattle.state.proofs.set_last.Statement.{statement}

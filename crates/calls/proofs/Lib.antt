@@ -1,0 +1,9 @@
+pub mod CallLaws
+pub mod StateSteps
+pub mod ReturnLaws
+pub mod BufferLaws
+pub mod Theorem
+pub mod SameDebts
+pub mod NotEmpty
+pub mod WrongCalls
+pub mod Computes
