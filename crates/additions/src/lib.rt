@@ -1,4 +1,6 @@
 // The three calls of the writer: a body begun on a lent buffer, then one operation or one branch more each time.
+#![tactic(auto)]
+
 ghost use Rattle.std.specs.Prelude.{◌≡◌};
 ghost use Rattle.basis.specs.Choice.{is_some};
 ghost use Rattle.writer.specs.Writer.{held, written_is, begin_on, add_to, add_operation, add_branch};

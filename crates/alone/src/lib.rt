@@ -1,4 +1,6 @@
 // An operation by itself, codes 1 to 4, read off bytes that are nothing more.
+#![tactic(auto)]
+
 ghost use Rattle.std.specs.Prelude.{◌≡◌, ◌≤◌, take};
 ghost use Rattle.basis.specs.Sizes.{most_fields};
 ghost use Rattle.model.specs.Meeting.{refers, lookup_in};

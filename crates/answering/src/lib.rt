@@ -1,4 +1,6 @@
 // What a record but AG asks, answered: DS here, with the spaces that waiting statements name; the others below.
+#![tactic(auto)]
+
 ghost use Rattle.std.proofs.Math.Option.{some};
 ghost use Rattle.std.specs.Prelude.{◌≤◌, ◌<◌, length};
 ghost use Rattle.basis.specs.Sizes.{hosts, space_numbers, most_reply};

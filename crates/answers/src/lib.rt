@@ -1,4 +1,6 @@
 // The answer that a composed AG body gets, and the buffer after it.
+#![tactic(auto)]
+
 ghost use Rattle.std.specs.Prelude.{◌≡◌, length};
 ghost use Rattle.model.specs.Legal.{legal_body};
 ghost use Rattle.writer.specs.Writer.{written_is};

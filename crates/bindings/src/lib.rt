@@ -1,4 +1,6 @@
 // The variables of a branch: what a template asks for with them, what a tuple binds, and the tuple that an out makes.
+#![tactic(auto)]
+
 ghost use Rattle.std.specs.Prelude.{◌≡◌, true, ◌+◌, ◌≤◌, length};
 ghost use Rattle.basis.specs.Choice.{provided};
 ghost use Rattle.basis.specs.ListLaws.{Each};
@@ -20,7 +22,7 @@ use statements::{Field, Operation};
 use sums::Sum;
 
 // The variables of a branch: those that are bound, with kind and bits of their values.
-#[derive(Drop)]
+#[derive(Clone, Copy)]
 pub struct Vars {
     pub bound: [bool; words::VARIABLES],
     pub kinds: [u8; words::VARIABLES],
@@ -28,7 +30,7 @@ pub struct Vars {
 }
 
 // A kind and, where one is given, the bits of a value.
-#[derive(Drop)]
+#[derive(Clone, Copy)]
 struct Sought {
     pub kind: u8,
     pub given: bool,
@@ -36,7 +38,7 @@ struct Sought {
 }
 
 // A kind and, where one is given, a range of values; that of one value has its bits twice.
-#[derive(Drop)]
+#[derive(Clone, Copy)]
 struct Asks {
     pub kind: u8,
     pub given: bool,
@@ -214,7 +216,7 @@ fn field_value(f: Field, v: Vars) -> Sought
 }
 
 // An out's tuple, where it can be made: its entry's bytes.
-#[derive(Drop)]
+#[derive(Clone, Copy)]
 pub struct Made {
     pub ok: bool,
     pub tuple: [u8; words::TUPLE],

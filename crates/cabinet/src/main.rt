@@ -1,4 +1,6 @@
 // The program `cabinet`: a stream of records on standard input, "a line per reply" on standard output.
+#![tactic(auto)]
+
 ghost use Rattle.std.specs.Prelude.{◌+◌, ◌*◌, ◌≤◌, ◌<◌, ◌≡◌, ◌≢◌, true, false, length, take, T};
 ghost use Rattle.std.proofs.Math.Pow.{are_bytes};
 ghost use Rattle.basis.specs.Choice.{is_some};
@@ -18,7 +20,7 @@ use libc::{STDIN_FILENO, STDOUT_FILENO};
 const RECORD: usize = words::BODY_AT + words::MOST_LENGTH;
 
 // The text of what answers a record: its length, and whether the stream goes on.
-#[derive(Drop)]
+#[derive(Clone, Copy)]
 struct Response {
     end: usize,
     more: bool,
@@ -26,7 +28,7 @@ struct Response {
 
 // The turns taken so far, and the last of them: the count of bytes read, the length of the text that answers them, whether the stream
 // goes on, whether the text was written.
-#[derive(Drop)]
+#[derive(Clone, Copy)]
 struct Turn {
     turns: u64,
     size: usize,

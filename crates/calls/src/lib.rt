@@ -1,1 +1,3 @@
 // The two calls and the claim over two replicas: definitions and a theorem in specs/ alone.
+#![tactic(auto)]
+

@@ -1,4 +1,6 @@
 // The writer: it holds a lent buffer and its fill, and carries them along from addition to addition.
+#![tactic(auto)]
+
 ghost use Rattle.std.specs.Prelude.{◌≡◌};
 ghost use Rattle.writer.specs.Writer.{written_is, begin_on};
 ghost use Rattle.carried.specs.Held.{begun_on, operation_on, branch_on, shown};

@@ -1,4 +1,6 @@
 // An AG body with an addition: begun, with one operation more, or with one branch more.
+#![tactic(auto)]
+
 ghost use Rattle.std.specs.Prelude.{◌≡◌, true, ◌≤◌, length, take};
 ghost use Rattle.basis.specs.Choice.{is_some};
 ghost use Rattle.writer.specs.Writer.{is_handed, held, with_operation, with_branch};

@@ -1,4 +1,6 @@
 // A body taken apart by the reader, and its parts handed to the writer: the same bytes.
+#![tactic(auto)]
+
 ghost use Rattle.std.specs.Prelude.{◌≡◌, true, List, ◌++◌, ℕ, ◌≤◌, length, drop};
 ghost use Rattle.model.specs.Legal.{legal_body};
 ghost use Rattle.rewriter.specs.Copying.{Underway};
@@ -10,7 +12,7 @@ use statements::read_operation;
 use words::{BRANCH_COUNT_AT, BRANCHES_AT, COUNT_WIDTH, PROCESS_AT, size, word2};
 
 // Where the reader stands in the body, and how many bytes the writer has filled.
-#[derive(Drop)]
+#[derive(Clone, Copy)]
 struct Place {
     at: usize,
     fill: usize,

@@ -1,4 +1,6 @@
 // The program `desk`: it writes statements by the writer, runs them through a replica and prints "a line per reply".
+#![tactic(auto)]
+
 use libc::STDOUT_FILENO;
 use statements::{Field, OUT, Operation, TRUE};
 use writer::Added;

@@ -1,4 +1,6 @@
 // The text of numbers: decimal and hexadecimal digits, written into a lent buffer.
+#![tactic(auto)]
+
 ghost use Rattle.std.specs.Prelude.{◌≡◌, ◌+◌, ◌*◌, ◌≤◌, ◌<◌, length, take, drop};
 ghost use mathlib.Core.List.{◌∷◌, flat_map};
 ghost use Rattle.basis.specs.Sizes.{bits_width};

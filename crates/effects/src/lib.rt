@@ -1,4 +1,6 @@
 // The effect of each record but AG that no check refuses, with its reply.
+#![tactic(auto)]
+
 ghost use Rattle.std.specs.Prelude.{◌≡◌, true, false, not, ◌||◌, ◌+◌, ◌≤◌, ◌<◌, length, T, leb, eqb};
 ghost use Rattle.basis.specs.Numbers.{count};
 ghost use Rattle.basis.specs.Sizes.{hosts, most_spaces, space_numbers, reply_header_size, reply_value_size};

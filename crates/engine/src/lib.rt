@@ -1,4 +1,6 @@
 // Rules 3 to 5: the branch that was chosen of a statement, on the tuples of a state.
+#![tactic(auto)]
+
 ghost use Rattle.std.specs.Prelude.{◌≡◌, ◌≤◌, ◌<◌, true, length, T};
 ghost use Rattle.basis.specs.Lists.{all};
 ghost use Rattle.basis.specs.Sizes.{most_fields, most_tuples};
@@ -111,7 +113,7 @@ fn makes_no_sum(op: Operation) -> bool
 }
 
 // An operation that cannot fail was passed over: the position after it, and the room for tuples that it leaves; position 0: it can fail.
-#[derive(Drop)]
+#[derive(Clone, Copy)]
 struct Step {
     pub end: usize,
     pub room: usize,
@@ -210,7 +212,7 @@ fn run_whole(tuples: &mut [u8], n: usize, body: &[u8], guard: OperationRead, i: 
 }
 
 // What a statement did: the branch that ran, counted from 1, its outcome, and the tuples' number and the variables after it.
-#[derive(Drop)]
+#[derive(Clone, Copy)]
 pub struct Ran {
     pub branch: u8,
     pub outcome: u8,

@@ -1,4 +1,6 @@
 // Whether a field is legal in an operation, after the kinds that are bound.
+#![tactic(auto)]
+
 ghost use Rattle.std.specs.Prelude.{◌≡◌, T};
 ghost use Rattle.std.proofs.Math.Option.{some};
 ghost use Rattle.model.specs.Value.{value, range};
@@ -17,7 +19,7 @@ use words::{VARIABLES, size};
 const KINDS: u8 = 3;
 
 // Whether something is legal and, if so, the kinds of the variables bound after it: kind and one more, 0 where not bound.
-#[derive(Drop)]
+#[derive(Clone, Copy)]
 pub struct Bound {
     pub ok: bool,
     pub kinds: [u8; VARIABLES],

@@ -1,4 +1,6 @@
 // The frame of a record: its mark, its length and its position; the checks 2 to 5, which look at no byte of a state.
+#![tactic(auto)]
+
 ghost use Rattle.std.specs.Prelude.{◌≡◌, ◌≤◌, length, take};
 ghost use Rattle.std.proofs.Math.Option.{some};
 ghost use Rattle.basis.specs.Choice.{is_some};

@@ -1,4 +1,6 @@
 // The fresh_state call.
+#![tactic(auto)]
+
 ghost use Rattle.std.specs.Prelude.{◌≡◌};
 ghost use Rattle.calls.specs.Calls.{fresh_answer, fresh_call};
 

@@ -1,4 +1,6 @@
 // Rule 2: the guards of a statement, which branch they choose, and whether it can wait.
+#![tactic(auto)]
+
 ghost use Rattle.std.specs.Prelude.{◌≡◌, ◌≤◌, length, T};
 ghost use Rattle.basis.specs.Sizes.{most_fields, most_tuples, tuples_size};
 ghost use Rattle.model.specs.Execution.{holds, chosen, can_wait};

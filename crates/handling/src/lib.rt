@@ -1,4 +1,6 @@
 // RV, CR, MO and MS on the bytes of a state: the checks from 7 on, then the effect and the own reply. Rule 7 comes after it.
+#![tactic(auto)]
+
 ghost use Rattle.std.specs.Prelude.{◌≡◌, suc, ◌≤◌, ◌<◌, length};
 ghost use Rattle.std.proofs.Math.Option.{some};
 ghost use Rattle.basis.specs.Sizes.{hosts, reply_header_size, most_reply};
@@ -10,7 +12,7 @@ ghost use Rattle.calls.specs.Calls.{number_of};
 ghost use Rattle.handling.specs.Answers.{Answers};
 
 // What a record has come to before rule 7, with the bytes of its reply: a check refused it, or it is done.
-#[derive(Drop)]
+#[derive(Clone, Copy)]
 pub enum Own {
     Refused(usize),
     Done(usize),

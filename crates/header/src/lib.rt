@@ -1,5 +1,7 @@
 // The header of a state, row by row: "`TS`, last position taken (4), hosts_up mask (2, bit h for host h), monitors, next space number", of
 // four bytes, "counts of spaces, tuples (2), waiting", and the owed masks "right after the count of waiting". Only here is it said where a row stands.
+#![tactic(auto)]
+
 ghost use Rattle.std.specs.Prelude.{◌≡◌, ◌+◌, ◌-◌, ◌*◌, ◌≤◌, ◌<◌, not, ◌&&◌, length, drop, T};
 ghost use Rattle.basis.specs.Numbers.{number_at, bits};
 ghost use Rattle.basis.specs.Sizes.{position_width, mask_width, count_width, next_width, tuple_count_width, hosts, most_monitors, most_spaces, most_tuples, most_waiting, last_at, mask_at, monitors_at, next_at, space_count_at, tuple_count_at, waiting_count_at, owed_at, header_used, header_size};

@@ -1,4 +1,6 @@
 // A mask of hosts: those that are up, or those owed to a monitor number.
+#![tactic(auto)]
+
 ghost use Rattle.std.specs.Prelude.{◌≡◌, ◌<◌, true, false, get_or, set};
 ghost use Rattle.basis.specs.Numbers.{mask, bits, count};
 ghost use Rattle.basis.specs.Sizes.{hosts};

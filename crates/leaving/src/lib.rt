@@ -1,4 +1,6 @@
 // A waiting statement of a state leaves the queue.
+#![tactic(auto)]
+
 ghost use Rattle.std.specs.Prelude.{◌≡◌, ◌+◌, ◌≤◌, ◌<◌, length, take};
 ghost use Rattle.basis.specs.Sizes.{most_body, most_waiting, waiting_size};
 ghost use Rattle.layout.specs.States.{decode};
@@ -8,7 +10,7 @@ ghost use Rattle.sections.specs.Rows.{HasRows};
 ghost use Rattle.leaving.specs.Leaving.{Gone};
 
 // Who has left: the position of its record, and the length of its body.
-#[derive(Drop)]
+#[derive(Clone, Copy)]
 pub struct Leaver {
     pub position: u32,
     pub size: usize,

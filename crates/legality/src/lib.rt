@@ -1,4 +1,6 @@
 // Whether an operation is legal where it stands, after those before it in its branch.
+#![tactic(auto)]
+
 ghost use Rattle.std.specs.Prelude.{◌≡◌, ◌≤◌, take};
 ghost use Rattle.statements.specs.Flat.{fields_are, operation_is};
 ghost use Rattle.basis.specs.Sizes.{most_fields};
@@ -68,7 +70,7 @@ pub fn operation_ok(op: Operation, kinds: [u8; VARIABLES]) -> Bound
 }
 
 // The kinds of the variables bound after an operation, and the position after it; 0: there is none.
-#[derive(Drop)]
+#[derive(Clone, Copy)]
 pub struct Step {
     pub end: usize,
     pub kinds: [u8; VARIABLES],

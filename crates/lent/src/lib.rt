@@ -1,1 +1,3 @@
 // The sections of a stored state, as they are lent: laws in specs/ alone.
+#![tactic(auto)]
+

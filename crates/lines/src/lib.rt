@@ -1,4 +1,6 @@
 // The text that the program `cabinet` prints: "a line per reply", and refusals.
+#![tactic(auto)]
+
 ghost use Rattle.std.specs.Prelude.{◌≡◌, List, ◌+◌, ◌*◌, ◌-◌, ◌≤◌, ◌<◌, length, take, drop};
 ghost use Rattle.basis.specs.Sizes.{reply_header_size, reply_value_size};
 ghost use Rattle.model.specs.Run.{Reply};

@@ -1,4 +1,6 @@
 // Rule 1 on the tuples of a state: which of them a template matches, and the oldest one.
+#![tactic(auto)]
+
 ghost use Rattle.std.specs.Prelude.{◌≡◌, false, ◌+◌, ◌≤◌, length};
 ghost use Rattle.basis.specs.Lists.{first};
 ghost use Rattle.basis.specs.Sizes.{most_tuples, most_fields, tuple_size, tuples_size};
@@ -9,7 +11,7 @@ ghost use Rattle.matching.specs.Meaning.{template_is, mismatch_is, found_is};
 
 // What a template asks for: the space, and of each of `count` fields the kind and, where one is given, the range of values; that of one value has its
 // bits twice.
-#[derive(Drop)]
+#[derive(Clone, Copy)]
 pub struct Template {
     pub space: u16,
     pub count: usize,
@@ -20,7 +22,7 @@ pub struct Template {
 }
 
 // Which condition of document 003, section 5.1, fails first: 0 none, 1 the number of fields, 2 the kinds, 3 the values.
-#[derive(Drop)]
+#[derive(Clone, Copy)]
 pub enum Mismatch {
     None,
     Count,
@@ -28,7 +30,7 @@ pub enum Mismatch {
     Values,
 }
 
-#[derive(Drop)]
+#[derive(Clone, Copy)]
 pub enum Found {
     At(usize),
     Nothing,

@@ -1,4 +1,6 @@
 // Whether two templates can ever meet, each given as the bytes of one operation, codes 1 to 4.
+#![tactic(auto)]
+
 ghost use Rattle.std.specs.Prelude.{◌≡◌, ◌≤◌, ◌<◌};
 ghost use Rattle.basis.specs.Sizes.{most_fields};
 ghost use Rattle.model.specs.Meeting.{fields_meet, meet, can_meet};

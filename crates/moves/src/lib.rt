@@ -1,4 +1,6 @@
 // Move and copy on the tuples of a state: all that a template selects, appended to a space.
+#![tactic(auto)]
+
 ghost use Rattle.std.specs.Prelude.{◌≡◌, ◌+◌, ◌*◌, ◌≤◌, ◌<◌, length};
 ghost use Rattle.basis.specs.Sizes.{space_numbers, most_fields, tuple_size};
 ghost use Rattle.model.specs.Matching.{selected};
@@ -15,7 +17,7 @@ use matching::Template;
 const HELD: usize = 64;
 
 // What copy did: how many tuples there are now; or nothing, where they "would pass 512".
-#[derive(Drop)]
+#[derive(Clone, Copy)]
 pub enum Copied {
     Now(usize),
     Full,

@@ -1,4 +1,6 @@
 // The spaces that a body names: whether one of them passes a test.
+#![tactic(auto)]
+
 ghost use Rattle.std.specs.Prelude.{◌≡◌, ◌+◌, ◌≤◌, ◌<◌, [], length, get_or, T};
 ghost use Rattle.basis.specs.Lists.{any};
 ghost use Rattle.basis.specs.Sizes.{count_width};
@@ -14,7 +16,7 @@ ghost use Rattle.names.specs.Named.{PastOperations, PastBranch};
 use statements::{Bare, TWO_SPACES, pass_operation};
 
 // What a space is tested for: that it is not open, not open to a process, or that of a number.
-#[derive(Drop)]
+#[derive(Clone, Copy)]
 pub enum SpaceTest {
     Closed,
     Shut(u16),

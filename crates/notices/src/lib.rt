@@ -1,4 +1,6 @@
 // Failure tuples on the bytes of a state: a crash's own, those that it owes for want of room, and their laying down.
+#![tactic(auto)]
+
 ghost use Rattle.std.specs.Prelude.{◌≡◌, true, false, ◌-◌, ◌≤◌, ◌<◌};
 ghost use Rattle.basis.specs.Sizes.{hosts};
 ghost use Rattle.model.specs.Run.{host_up, failure_tuple, has_room, noticed, is_owed, set_owed, laid_one, laid_for, laid};

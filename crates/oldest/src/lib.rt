@@ -1,4 +1,6 @@
 // Rule 7: "the oldest waiting statement with a guard that holds", looked for in the section of the queue.
+#![tactic(auto)]
+
 ghost use Rattle.std.specs.Prelude.{◌≡◌, ◌≤◌, ◌<◌, length};
 ghost use Rattle.basis.specs.Sizes.{most_tuples, tuples_size};
 ghost use Rattle.tuples.specs.Section.{tuples_of};
@@ -8,7 +10,7 @@ ghost use Rattle.oldest.specs.Searching.{ChoosesAt, Answers};
 use walk::Choice;
 
 // Who runs next: the waiting statement at an index, with the branch that its guards choose, or nobody.
-#[derive(Drop)]
+#[derive(Clone, Copy)]
 pub enum Oldest {
     At(usize, Choice),
     Nobody,

@@ -1,4 +1,6 @@
 // Rules 3 and 4: one operation on the tuples of a state.
+#![tactic(auto)]
+
 ghost use Rattle.std.specs.Prelude.{◌≡◌, ◌+◌, ◌≤◌, ◌<◌};
 ghost use Rattle.basis.specs.Sizes.{most_fields, most_tuples, space_numbers};
 ghost use Rattle.model.specs.Statement.{deposit, transfer};
@@ -18,7 +20,7 @@ use moves::Copied;
 use statements::Operation;
 
 // What an operation or a branch did: outcome 0, with the tuples' number and the variables after it; else the number of the failure.
-#[derive(Drop)]
+#[derive(Clone, Copy)]
 pub struct Done {
     pub outcome: u8,
     pub n: usize,

@@ -1,1 +1,3 @@
 // "Checks run in this order": the number of the first that refuses. See `specs/`.
+#![tactic(auto)]
+

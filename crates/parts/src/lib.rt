@@ -1,4 +1,6 @@
 // The bytes of an addition to an AG body.
+#![tactic(auto)]
+
 ghost use Rattle.std.specs.Prelude.{◌≡◌, true, ◌+◌, ◌≤◌, ◌<◌, length, take, T};
 ghost use Rattle.basis.specs.Lists.{all};
 ghost use Rattle.basis.specs.Sizes.{form_width, count_width, most_fields, value_size, range_size, fields_size, operation_size};

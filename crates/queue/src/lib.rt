@@ -1,4 +1,6 @@
 // The waiting statements of a state: rows that say position, length and body.
+#![tactic(auto)]
+
 ghost use Rattle.std.specs.Prelude.{◌≡◌, ◌+◌, ◌-◌, ◌^◌, ◌≤◌, ◌<◌, [], ◌∷◌, ◌++◌, length, get_or, T};
 ghost use Rattle.basis.specs.Lists.{any, keep, pad, pairwise, pieces, remove_at};
 ghost use Rattle.basis.specs.Sizes.{length_width, hosts, most_body, most_waiting, waiting_size};

@@ -1,4 +1,6 @@
 // The checks of the spaces that a record names: 10, 11 and 15 on the bytes of a state.
+#![tactic(auto)]
+
 ghost use Rattle.std.specs.Prelude.{◌≡◌, ◌<◌, ◌||◌, T, eqb};
 ghost use Rattle.basis.specs.Lists.{any};
 ghost use Rattle.basis.specs.Sizes.{hosts, space_numbers};

@@ -1,4 +1,6 @@
 // The functions for C: a replica of the tuple space in a buffer that the caller lends, the writer of statements, and whether two templates can meet. `include/replica.h` says them in words.
+#![tactic(auto)]
+
 ghost use Rattle.std.specs.Prelude.{◌≡◌};
 ghost use Rattle.basis.specs.Sizes.{layout_number};
 ghost use Rattle.model.specs.Meeting.{can_meet};

@@ -1,4 +1,6 @@
 // "Replies": one reply, written at the front of a lent buffer.
+#![tactic(auto)]
+
 ghost use Rattle.std.specs.Prelude.{◌≡◌, [], ◌+◌, ◌≤◌, length};
 ghost use Rattle.basis.specs.Sizes.{variables, reply_header_size, reply_value_size, most_reply};
 ghost use Rattle.words.specs.Over.{over};

@@ -1,4 +1,6 @@
 // Check 6 of every record but AG: what its body asks, or that it is malformed.
+#![tactic(auto)]
+
 ghost use Rattle.std.specs.Prelude.{◌≡◌, ◌≤◌, ◌<◌};
 ghost use Rattle.basis.specs.Sizes.{hosts};
 ghost use Rattle.model.specs.Step.{RV, CR, MO, MS, DS, request_of};
@@ -6,7 +8,7 @@ ghost use Rattle.framing.specs.Marks.{mark_at};
 ghost use Rattle.requests.specs.Asking.{from_host, asked_is, Within};
 
 // What a record asks, with host, process, and whether the space is private, or its number.
-#[derive(Drop)]
+#[derive(Clone, Copy)]
 pub enum Asked {
     Malformed,
     Recover(u8),

@@ -1,4 +1,6 @@
 // A statement on the bytes of a state, answered.
+#![tactic(auto)]
+
 ghost use Rattle.std.specs.Prelude.{◌≤◌, length, T};
 ghost use Rattle.basis.specs.Sizes.{most_reply};
 ghost use Rattle.model.specs.Legal.{legal_body};

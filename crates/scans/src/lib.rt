@@ -1,4 +1,6 @@
 // What is found by looking through the rows of a section: the first with a number, numbers that rise, numbers that differ, zeros past the rows.
+#![tactic(auto)]
+
 ghost use Rattle.std.specs.Prelude.{◌≡◌, ◌+◌, ◌≤◌, ◌<◌, [], drop, get_or};
 ghost use Rattle.basis.specs.Lists.{all, pairwise, pieces};
 ghost use Rattle.basis.specs.Numbers.{number_at};

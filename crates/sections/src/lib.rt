@@ -1,4 +1,6 @@
 // A section of a state: rows of one size, of which the first n are in use, then zeros. What is done to it does not depend on what the rows say.
+#![tactic(auto)]
+
 ghost use Rattle.std.specs.Prelude.{◌≡◌, ◌+◌, ◌*◌, ◌-◌, ◌≤◌, ◌<◌, [], ◌∷◌, ◌++◌, length};
 ghost use Rattle.basis.specs.Lists.{keep, pad, pieces, remove_at};
 ghost use Rattle.basis.specs.Numbers.{number_at};

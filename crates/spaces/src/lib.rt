@@ -1,4 +1,6 @@
 // The open spaces of a state: rows that say number, kind and owner.
+#![tactic(auto)]
+
 ghost use Rattle.std.specs.Prelude.{◌≡◌, ◌+◌, ◌≤◌, ◌<◌, true, not, ◌&&◌, [], ◌∷◌, ◌++◌, length, get_or};
 ghost use Rattle.basis.specs.Lists.{all, keep, pieces};
 ghost use Rattle.basis.specs.Sizes.{most_spaces, space_numbers, space_size, spaces_size};

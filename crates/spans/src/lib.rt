@@ -1,4 +1,6 @@
 // Spans of bytes: copied, moved, cleared, looked through for zeros.
+#![tactic(auto)]
+
 ghost use Rattle.std.specs.Prelude.{◌≡◌, ◌+◌, ◌≤◌, length, drop};
 ghost use Rattle.basis.specs.Lists.{zeros};
 ghost use Rattle.basis.specs.Sizes.{most_row};

@@ -1,4 +1,6 @@
 // The checks of the host and the process that ask, and of the counts: 7, 8, 9 and 14 on the bytes of a state.
+#![tactic(auto)]
+
 ghost use Rattle.std.specs.Prelude.{◌≡◌, ◌<◌, Bool};
 ghost use Rattle.basis.specs.Sizes.{hosts};
 ghost use Rattle.model.specs.Run.{host_up, is_waiting};

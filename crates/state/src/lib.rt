@@ -1,4 +1,6 @@
 // The effects of the records on the bytes of a state, but for failure tuples: the rows of its header by `header`, each section lent to its home.
+#![tactic(auto)]
+
 ghost use Rattle.std.specs.Prelude.{◌≡◌, true, false, not, ◌||◌, ◌≤◌, ◌<◌, length, set, T, leb, eqb};
 ghost use Rattle.basis.specs.Lists.{all, keep, remove_at};
 ghost use Rattle.basis.specs.Sizes.{hosts, most_waiting, most_spaces, space_numbers};

@@ -1,4 +1,6 @@
 // Reading the operations of an AG record's body.
+#![tactic(auto)]
+
 ghost use Rattle.std.specs.Prelude.{◌≡◌, ℕ, ◌+◌, ◌≤◌, ◌<◌, List, length, get_or, T};
 ghost use Rattle.std.proofs.Math.Option.{none};
 ghost use Rattle.model.specs.Statement.{binder_of, always};
@@ -32,7 +34,7 @@ pub const FORMS: u8 = 7;
 
 // A field: its form, and the kind, variable and four bytes of a value that the form has, of form 6 the lowest and the highest; parts that it lacks are 0.
 #[repr(C)]
-#[derive(Drop)]
+#[derive(Clone, Copy)]
 pub struct Field {
     pub form: u8,
     pub kind: u8,
@@ -52,14 +54,14 @@ pub fn binds(f: Field) -> bool
 }
 
 // A field that was read, and the position after it; 0: there is none.
-#[derive(Drop)]
+#[derive(Clone, Copy)]
 pub struct FieldRead {
     pub end: usize,
     pub field: Field,
 }
 
 // Fields that were read, and the position after them; 0: there are none.
-#[derive(Drop)]
+#[derive(Clone, Copy)]
 pub struct FieldsRead {
     pub end: usize,
     pub fields: [Field; MOST_FIELDS],
@@ -67,7 +69,7 @@ pub struct FieldsRead {
 
 // An operation: its code, spaces and first `count` fields; parts that it lacks are 0.
 #[repr(C)]
-#[derive(Drop)]
+#[derive(Clone, Copy)]
 pub struct Operation {
     pub code: u8,
     pub from: u16,
@@ -77,7 +79,7 @@ pub struct Operation {
 }
 
 // An operation that was read, and the position after it; 0: there is none.
-#[derive(Drop)]
+#[derive(Clone, Copy)]
 pub struct OperationRead {
     pub end: usize,
     pub operation: Operation,
@@ -268,7 +270,7 @@ fn second_space(b: &[u8], at: usize, code: u8) -> u16
 }
 
 // What stands before the fields of an operation: its code, its spaces, their count, and the position of the first; 0: there is no such operation.
-#[derive(Drop)]
+#[derive(Clone, Copy)]
 struct Front {
     pub at: usize,
     pub code: u8,
@@ -360,7 +362,7 @@ pub fn read_operation(b: &[u8], at: usize) -> OperationRead
 }
 
 // An operation without its fields: its code and spaces, and the position after it; 0: there is none.
-#[derive(Drop)]
+#[derive(Clone, Copy)]
 pub struct Bare {
     pub end: usize,
     pub code: u8,

@@ -1,4 +1,6 @@
 // Rule 4: sums and differences of values.
+#![tactic(auto)]
+
 ghost use Rattle.std.specs.Prelude.{◌≡◌, T, ◌+ℤ◌, ◌-ℤ◌};
 ghost use Rattle.std.specs.Float.Ieee as Ieee;
 ghost use Rattle.std.specs.Float.{binary32};
@@ -16,7 +18,7 @@ const LEAST: i32 = -2147483648;
 const MOST: i32 = 2147483647;
 
 // A sum or a difference; `Refused` is 17, "result off the range or not finite".
-#[derive(Drop)]
+#[derive(Clone, Copy)]
 pub enum Sum {
     Is(Value),
     Refused,

@@ -1,1 +1,3 @@
 // What the program prints: definitions, and their laws on the bytes of replies, in specs/ alone.
+#![tactic(auto)]
+

@@ -1,4 +1,6 @@
 // A statement with no guard that holds: what it is refused with, or that it waits.
+#![tactic(auto)]
+
 ghost use Rattle.std.specs.Prelude.{◌≡◌, length};
 ghost use Rattle.model.specs.Statement.{Statement};
 ghost use Rattle.model.specs.Execution.{can_wait};
@@ -8,7 +10,7 @@ ghost use Rattle.unmet.specs.Unmet.{answered_by, Waits};
 
 // 18 where it does not wait, since no guard is in or rd; 13, "must wait, 32 wait"; 0 where it waits.
 pub fn refusal(waits: bool, waiting: usize) -> u8
-    ensures st_value { (s : Run) (st : Statement) → can_wait st ≡ waits → length s.waiting ≡ waiting → unmet s st ≡ answered_by result s st }
+    ensures answer { (s : Run) (st : Statement) → can_wait st ≡ waits → length s.waiting ≡ waiting → unmet s st ≡ answered_by result s st }
     ensures waits { result ≡ 0 → Waits waits waiting }
 {
     if !waits {

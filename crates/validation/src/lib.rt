@@ -1,4 +1,6 @@
 // The test of "The state buffer": whether bytes are a state.
+#![tactic(auto)]
+
 ghost use Rattle.std.specs.Prelude.{◌≡◌, ◌≤◌, length, T};
 ghost use Rattle.basis.specs.Lists.{all, pieces};
 ghost use Rattle.basis.specs.Numbers.{bits};

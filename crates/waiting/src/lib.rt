@@ -1,4 +1,6 @@
 // The statements that wait in a state: what "The state buffer" asks of each.
+#![tactic(auto)]
+
 ghost use Rattle.std.specs.Prelude.{◌≡◌, ◌≤◌, ◌<◌, ◌||◌, [], length, get_or, T};
 ghost use Rattle.basis.specs.Lists.{all, pieces};
 ghost use Rattle.basis.specs.Numbers.{bits};

@@ -1,4 +1,6 @@
 // Rule 7 on the bytes of a state.
+#![tactic(auto)]
+
 ghost use Rattle.std.specs.Prelude.{◌+◌, ◌*◌, ◌≤◌, ◌<◌, length};
 ghost use Rattle.basis.specs.Sizes.{most_reply};
 ghost use Rattle.model.specs.Run.{laid, settle as settles};

@@ -1,4 +1,6 @@
 // From position to position of a body: where operations and branches end, and where the last branch's operation count stands.
+#![tactic(auto)]
+
 ghost use Rattle.std.specs.Prelude.{◌≡◌, ◌≤◌, ◌<◌, length, true};
 ghost use Rattle.basis.specs.Lists.{all};
 ghost use Rattle.model.specs.Reading.{several, operation, branch};
@@ -13,7 +15,7 @@ use statements::pass_operation;
 use words::{BRANCH_COUNT_AT, BRANCHES_AT, COUNT_WIDTH, size};
 
 // A branch that was chosen, counted from 1, the position of its guard, and the index of the tuple that the guard finds; branch 0: none.
-#[derive(Drop)]
+#[derive(Clone, Copy)]
 pub struct Choice {
     pub branch: u8,
     pub at: usize,

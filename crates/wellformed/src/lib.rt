@@ -1,4 +1,6 @@
 // Which rows of the tuples are the entries of legal tuples, and the zeros past them, for the test of a state.
+#![tactic(auto)]
+
 ghost use Rattle.std.specs.Prelude.{◌≡◌, ◌+◌, ◌<◌};
 ghost use Rattle.basis.specs.Sizes.{most_fields, tuple_size};
 ghost use Rattle.tuples.specs.Section.{entry_at};

@@ -1,4 +1,6 @@
 // The writer of AG bodies: what it is handed, and what it answers.
+#![tactic(auto)]
+
 ghost use Rattle.std.specs.Prelude.{◌≡◌, ◌≤◌, take};
 ghost use Rattle.basis.specs.Lists.{all};
 ghost use Rattle.basis.specs.Sizes.{most_fields};
@@ -14,7 +16,7 @@ pub const MALFORMED: u8 = 6;
 pub const SHORT: u8 = 2;
 
 // What an addition answers, 0 done, 6 or 2 refused, and the count of filled bytes after it.
-#[derive(Drop)]
+#[derive(Clone, Copy)]
 pub struct Added {
     pub answer: u8,
     pub fill: usize,

@@ -39,7 +39,7 @@ returns c =
     let at = c.before.before.before.before.before in
     let a = at.before.before.args in
     let x = c.before.before.before.x.given in
-    let is = Answers.sum_is_lem a.f.kind at.before.held.result.bits a.f.bits a.subtract at.add.result at.add.ensures x.0.0 x.1 in
+    let is = Answers.sum_is a.f.kind at.before.held.result.bits a.f.bits a.subtract at.add.result at.add.ensures x.0.0 x.1 in
     sum_given (bindings_of a.v) a.f.variable (value a.f.kind a.f.bits) at.before.held.result.kind at.before.held.result.bits at.before.held.ensures.0 a.subtract
     (value_is x.0.0) c.before.kind-of.result c.bits_of.result (sym is) c.before.kind-of.ensures c.bits_of.ensures
 

@@ -26,7 +26,7 @@ returns c = let k = c.before in
     let l = k.before.before in
     let s = l.before.before in
     passing_stop operation (body_legal (kinds_are s.args.kinds)) (body_legal (kinds_are l.loop.now)) s.args.b.now s.args.at s.args.count l.loop.end l.loop.i l.loop.invariant k.before.loop-test.true
-    (step_stops (kinds_are l.loop.now) s.args.b.now l.loop.end k.operation_step_lem.result k.operation_step_lem.ensures c.if1.true)
+    (step_stops (kinds_are l.loop.now) s.args.b.now l.loop.end k.operation_step.result k.operation_step.ensures c.if1.true)
 
 add-i : tie.Need-overflow-add-i invariant-loop decreases-loop
 add-i c = search rules
@@ -38,8 +38,8 @@ loop-again : tie.Need-loop-preserved invariant-loop decreases-loop
 loop-again c = let k = c.before.before in
     let l = k.before.before in
     let s = l.before.before in
-    passing_turn operation (body_legal (kinds_are s.args.kinds)) (body_legal (kinds_are l.loop.now)) s.args.b.now s.args.at s.args.count l.loop.end l.loop.i l.loop.invariant (body_legal (kinds_are k.operation_step_lem.result.kinds)) k.operation_step_lem.result.end k.before.loop-test.true
-    (step_passes (kinds_are l.loop.now) s.args.b.now l.loop.end k.operation_step_lem.result k.operation_step_lem.ensures c.before.if1.false)
+    passing_turn operation (body_legal (kinds_are s.args.kinds)) (body_legal (kinds_are l.loop.now)) s.args.b.now s.args.at s.args.count l.loop.end l.loop.i l.loop.invariant (body_legal (kinds_are k.operation_step.result.kinds)) k.operation_step.result.end k.before.loop-test.true
+    (step_passes (kinds_are l.loop.now) s.args.b.now l.loop.end k.operation_step.result k.operation_step.ensures c.before.if1.false)
 
 returns-2 : tie.Need-returns-2 invariant-loop decreases-loop
 returns-2 c = let l = c.before in

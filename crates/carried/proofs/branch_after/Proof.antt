@@ -23,7 +23,7 @@ returns-2 c =
     let k = c.before.before in
     let i = k.before.before in
     let a = i.before.before.args in
-    k.branch_at_lem.ensures ∙ sym (goes_on_lem add_branch (left a.answer a.fill a.buffer.now) a.guard i.if1.false)
+    k.branch_at.ensures ∙ sym (goes_on_lem add_branch (left a.answer a.fill a.buffer.now) a.guard i.if1.false)
 
 pub branch-after-spec : {M : Type 1} → statement M
 branch-after-spec = tie.close (tie.spec returns branch-at-requires same_length returns-2)

@@ -70,11 +70,11 @@ loop-again c =
     let w = z.before.before.before.before in
     let r = w.before.before.before in
     let l = (at r).loop in
-    let turn : Underway (bytes r) (buffer r) (r.read-operation.result.end + count_width) (get_or (bytes r) r.read-operation.result.end 0) (l.branches - 1) w.branch_at_lem.result.fill w.branch_at_lem.new.0 =
+    let turn : Underway (bytes r) (buffer r) (r.read-operation.result.end + count_width) (get_or (bytes r) r.read-operation.result.end 0) (l.branches - 1) w.branch_at.result.fill w.branch_at.new.0 =
     branch_turn (bytes r) (buffer r) l.next (l.branches - 1) l.filled l.out (ahead r) r.read-operation.result r.read-operation.ensures
-    w.branch_at_lem.result w.branch_at_lem.new.0 w.branch_at_lem.ensures in (
-      n.copy-operations.auto.1.1.1.0 ∙ w.branch_at_lem.auto.0 ∙ l.inv.0,
-      n.copy-operations.ensures (buffer r) (l.branches - 1) (subst (λ (m : ℕ). Underway (bytes r) (buffer r) (r.read-operation.result.end + count_width) m (l.branches - 1) w.branch_at_lem.result.fill w.branch_at_lem.new.0) (sym z.size.ensures.0) turn),
+    w.branch_at.result w.branch_at.new.0 w.branch_at.ensures in (
+      n.copy-operations.auto.1.1.1.0 ∙ w.branch_at.auto.0 ∙ l.inv.0,
+      n.copy-operations.ensures (buffer r) (l.branches - 1) (subst (λ (m : ℕ). Underway (bytes r) (buffer r) (r.read-operation.result.end + count_width) m (l.branches - 1) w.branch_at.result.fill w.branch_at.new.0) (sym z.size.ensures.0) turn),
     )
 
 same_length : tie.Need-same-length invariant-loop decreases-loop

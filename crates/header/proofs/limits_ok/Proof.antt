@@ -37,7 +37,7 @@ returns-4 c =
     let two = three.before.before in
     let one = two.before.before in
     no_tuples _ _ one.before.monitors.ensures.0 (omega (arith, one.if1.false)) _ two.before.next.ensures.0 (omega (arith, two.if2.false)) _ three.before.space_count.ensures.0 (omega (arith, three.if3.false))
-    _ c.before.tuple_count_lem.ensures.0 c.if4.true
+    _ c.before.tuple_count.ensures.0 c.if4.true
 
 waiting-count-requires : tie.Need-waiting-count-requires
 waiting-count-requires c κs = search rules
@@ -49,7 +49,7 @@ returns-5 c =
     let two = three.before.before in
     let one = two.before.before in
     then_waiting _ _ one.before.monitors.ensures.0 (omega (arith, one.if1.false)) _ two.before.next.ensures.0 (omega (arith, two.if2.false)) _ three.before.space_count.ensures.0 (omega (arith, three.if3.false))
-    _ four.before.tuple_count_lem.ensures.0 (omega (arith, four.if4.false)) _ c.waiting_count.ensures.0
+    _ four.before.tuple_count.ensures.0 (omega (arith, four.if4.false)) _ c.waiting_count.ensures.0
 
 pub limits-ok-spec : {M : Type 1} → statement M
 limits-ok-spec =

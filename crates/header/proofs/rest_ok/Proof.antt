@@ -24,7 +24,7 @@ zero-from-requires c κs = search rules
 returns : tie.Need-returns
 returns c =
     let n = c.before.before in
-    c.zero-from.ensures ∙ ap (λ (x : Bool). x && unused n.before.before.args.state.now) (debts_room _ _ n.tuple_count_lem.ensures.0 c.before.if1.true)
+    c.zero-from.ensures ∙ ap (λ (x : Bool). x && unused n.before.before.args.state.now) (debts_room _ _ n.tuple_count.ensures.0 c.before.if1.true)
 
 monitors-requires : tie.Need-monitors-requires
 monitors-requires c κs = search rules
@@ -36,7 +36,7 @@ returns-2 : tie.Need-returns-2
 returns-2 c =
     let m = c.before in
     let n = m.before.before in
-    c.zero-from2.ensures ∙ ap (λ (x : Bool). x && unused n.before.before.args.state.now) (debts_full _ _ n.tuple_count_lem.ensures.0 (omega (arith, m.before.if1.false)) _ m.monitors.ensures.0)
+    c.zero-from2.ensures ∙ ap (λ (x : Bool). x && unused n.before.before.args.state.now) (debts_full _ _ n.tuple_count.ensures.0 (omega (arith, m.before.if1.false)) _ m.monitors.ensures.0)
 
 pub rest-ok-spec : {M : Type 1} → statement M
 rest-ok-spec =

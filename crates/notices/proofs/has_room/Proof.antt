@@ -8,7 +8,7 @@ tuple-count-requires : tie.Need-tuple-count-requires
 tuple-count-requires c κs = omega arith
 
 returns : tie.Need-returns
-returns c = room_count _ _ c.tuple_count_lem.ensures.0
+returns c = room_count _ _ c.tuple_count.ensures.0
 
 pub has-room-spec : {M : Type 1} → statement M
 has-room-spec = tie.close (tie.spec tuple-count-requires returns)

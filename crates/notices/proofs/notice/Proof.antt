@@ -16,8 +16,8 @@ module _ (c : tie.After-tuple-count) where
   abbrev first : tie.Start
   first = c.before.before.before
 
-  room : c.tuple_count_lem.result < most_tuples
-  room = room_left _ _ c.tuple_count_lem.ensures.0 first.pre.1
+  room : c.tuple_count.result < most_tuples
+  room = room_left _ _ c.tuple_count.ensures.0 first.pre.1
 
 cast-failure-tuple : tie.Need-overflow-cast-failure-tuple
 cast-failure-tuple c = let s = first c in omega (arith, s.pre.2.given, s.pre.0.fit.monitors)
@@ -39,7 +39,7 @@ append-requires c κs =
     let made = c.before.before in
     let n = made.before in
     let s = first n in (
-      is_section _ _ s.pre.0 n.tuple_count_lem.ensures.0,
+      is_section _ _ s.pre.0 n.tuple_count.ensures.0,
       room n,
       failure_entry s.args.host s.args.monitor _ (omega (arith, s.pre.2.low)) (omega (arith, s.pre.2.given, s.pre.0.fit.monitors)) made.failure-tuple.ensures,
     )
@@ -60,7 +60,7 @@ returns c =
     let made = appended.before.before.before in
     let n = made.before in
     let s = first n in
-    lays s.pre.0 n.tuple_count_lem.ensures.0 s.pre.1 s.args.monitor s.args.host s.pre.2 made.failure-tuple.ensures appended.append.ensures put.set-tuple-count.ensures
+    lays s.pre.0 n.tuple_count.ensures.0 s.pre.1 s.args.monitor s.args.host s.pre.2 made.failure-tuple.ensures appended.append.ensures put.set-tuple-count.ensures
 
 pub notice-spec : {M : Type 1} → statement M
 notice-spec =

@@ -18,7 +18,7 @@ from-host-requires : tie.Need-from-host-requires
 from-host-requires c κs = search rules
 
 returns : tie.Need-returns
-returns c = let h = c.before.from_host_lem in (sym (close_no c.before.before.before.args.body.now h.result h.ensures (not-true _ c.if1.true)), tt)
+returns c = let h = c.before.from_host in (sym (close_no c.before.before.before.args.body.now h.result h.ensures (not-true _ c.if1.true)), tt)
 
 -- the length and the host are right
 module _ (m : tie.Else1) where
@@ -26,7 +26,7 @@ module _ (m : tie.Else1) where
   body = m.before.before.before.args.body.now
 
   head : (length body ≡ space_body) × (get_or body host_at 0 < hosts)
-  head = from_host_lem body space_body m.before.from_host_lem.result m.before.from_host_lem.ensures (not-false _ m.if1.left)
+  head = from_host_lem body space_body m.before.from_host.result m.before.from_host.ensures (not-false _ m.if1.left)
 
 shared-slice-read-host : tie.Need-shared-slice-read-host
 shared-slice-read-host c = omega (arith, (head c.before).0)
@@ -40,7 +40,7 @@ space-number-requires c κs = omega (arith, (head c.before.before).0)
 returns-2 : tie.Need-returns-2
 returns-2 c =
     let m = c.before.before.before in
-    let h = m.before.from_host_lem in
+    let h = m.before.from_host in
     let p = c.before.word2.ensures in
     let n = c.space-number.ensures in (
       (λ i. some (close_space (get_or (body m) host_at 0) (p i) (n i))) ∙ sym (close_yes (body m) h.result h.ensures (not-false _ m.if1.false)),

@@ -16,7 +16,7 @@ from-host-requires : tie.Need-from-host-requires
 from-host-requires c κs = search rules
 
 returns : tie.Need-returns
-returns c = let h = c.before.from_host_lem in (sym (crash_no c.before.before.before.args.body.now h.result h.ensures (not-true _ c.if1.true)), tt)
+returns c = let h = c.before.from_host in (sym (crash_no c.before.before.before.args.body.now h.result h.ensures (not-true _ c.if1.true)), tt)
 
 -- the length and the host are right
 module _ (m : tie.Else1) where
@@ -24,13 +24,13 @@ module _ (m : tie.Else1) where
   body = m.before.before.before.args.body.now
 
   head : (length body ≡ host_body) × (get_or body host_at 0 < hosts)
-  head = from_host_lem body host_body m.before.from_host_lem.result m.before.from_host_lem.ensures (not-false _ m.if1.left)
+  head = from_host_lem body host_body m.before.from_host.result m.before.from_host.ensures (not-false _ m.if1.left)
 
 shared-slice-read-host : tie.Need-shared-slice-read-host
 shared-slice-read-host c = omega (arith, (head c.before).0)
 
 returns-2 : tie.Need-returns-2
-returns-2 c = let m = c.before in let h = m.before.from_host_lem in (sym (crash_yes (body m) h.result h.ensures (not-false _ m.if1.false)), (head m).1)
+returns-2 c = let m = c.before in let h = m.before.from_host in (sym (crash_yes (body m) h.result h.ensures (not-false _ m.if1.false)), (head m).1)
 
 pub read-crash-spec : {M : Type 1} → statement M
 read-crash-spec = tie.close (tie.spec from-host-requires returns shared-slice-read-host returns-2)

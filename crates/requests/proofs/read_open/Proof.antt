@@ -25,7 +25,7 @@ module _ (m : tie.Then1) where
   body = m.before.before.before.args.body.now
 
   head : (length body ≡ process_body) × (get_or body host_at 0 < hosts)
-  head = from_host_lem body process_body m.before.from_host_lem.result m.before.from_host_lem.ensures m.if1.taken
+  head = from_host_lem body process_body m.before.from_host.result m.before.from_host.ensures m.if1.taken
 
 shared-slice-read-host : tie.Need-shared-slice-read-host
 shared-slice-read-host c = omega (arith, (head c.before).0)
@@ -36,7 +36,7 @@ word2-requires c κs = omega (arith, (head c.before).0)
 returns : tie.Need-returns
 returns c =
     let m = c.before.before in
-    let h = m.before.from_host_lem in
+    let h = m.before.from_host in
     (ap (λ p. some (open_space (get_or (body m) host_at 0) p false)) c.word2.ensures ∙ sym (open_short (body m) h.result h.ensures m.if1.true), (head m).1)
 
 from-host-requires-2 : tie.Need-from-host-requires-2
@@ -46,7 +46,7 @@ returns-2 : tie.Need-returns-2
 returns-2 c =
     let g = c.before.from-host2 in
     let e = c.before.before in
-    let h = e.before.from_host_lem in
+    let h = e.before.from_host in
     (sym (open_no e.before.before.before.args.body.now h.result g.result h.ensures e.if1.false g.ensures (not-true _ c.if2.true)), tt)
 
 -- with a kind byte
@@ -65,7 +65,7 @@ returns-3 c =
     let m = c.before.before in
     let g = m.before.from-host2 in
     let e = m.before.before in
-    let h = e.before.from_host_lem in
+    let h = e.before.from_host in
     (sym (open_other (long m) h.result g.result h.ensures e.if1.false g.ensures (not-false _ m.if2.false) c.if3.true), tt)
 
 shared-slice-read-host-2 : tie.Need-shared-slice-read-host-2
@@ -79,7 +79,7 @@ returns-4 c =
     let m = c.before.before.before.before in
     let g = m.before.from-host2 in
     let e = m.before.before in
-    let h = e.before.from_host_lem in (
+    let h = e.before.from_host in (
       ap (λ p. some (open_space (get_or (long m) host_at 0) p (eqb (get_or (long m) kind_at 0) 1))) c.word22.ensures
           ∙ sym (open_yes (long m) h.result g.result h.ensures e.if1.false g.ensures (not-false _ m.if2.false) c.before.before.if3.false),
       (with-kind m).1,

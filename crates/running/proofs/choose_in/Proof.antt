@@ -22,13 +22,13 @@ part-search-end c = omega arith
 search-requires : tie.Need-search-requires
 search-requires c κs = let k = c.before in
     let s = k.before.before.before in
-    let t = is_section s.args.state.now k.tuple_count_lem.result s.requires.0 k.tuple_count_lem.ensures.0 in
+    let t = is_section s.args.state.now k.tuple_count.result s.requires.0 k.tuple_count.ensures.0 in
     (holds_length tuple_shape _ _ _ t, t.few, s.requires.1)
 
 returns : tie.Need-returns
 returns c = let k = c.before.before in
     let s = k.before.before.before in
-    rw (tuples_read s.args.state.now k.tuple_count_lem.result s.requires.0 k.tuple_count_lem.ensures.0) at c.search.ensures
+    rw (tuples_read s.args.state.now k.tuple_count.result s.requires.0 k.tuple_count.ensures.0) at c.search.ensures
 
 pub choose-in-spec : {M : Type 1} → statement M
 choose-in-spec =

@@ -43,8 +43,8 @@ execute-requires c κs =
     let count = c.before in
     let s = count.before.before.before.before in
     let b = s.args.state.now in
-    let n = count.tuple_count_lem.result in
-    (is_section b n s.requires.0 count.tuple_count_lem.ensures.0, s.requires.1.legal, rw (tuples_read b n s.requires.0 count.tuple_count_lem.ensures.0) s.requires.2.0, s.requires.2.1)
+    let n = count.tuple_count.result in
+    (is_section b n s.requires.0 count.tuple_count.ensures.0, s.requires.1.legal, rw (tuples_read b n s.requires.0 count.tuple_count.ensures.0) s.requires.2.0, s.requires.2.1)
 
 set-tuple-count-requires : tie.Need-set-tuple-count-requires
 set-tuple-count-requires c κs =
@@ -59,7 +59,7 @@ returns c =
     let put = c.before.before in
     let att = put.before.before.before.before in
     let s = start att in
-    left s.args.state.now (counted att).tuple_count_lem.result s.pre.0 (counted att).tuple_count_lem.ensures.0 s.args.body.now att.execute.new.0 put.set-tuple-count.new.0 att.execute.result.n
+    left s.args.state.now (counted att).tuple_count.result s.pre.0 (counted att).tuple_count.ensures.0 s.args.body.now att.execute.new.0 put.set-tuple-count.new.0 att.execute.result.n
     att.execute.result.branch att.execute.result.outcome att.execute.result.vars
     s.pre.1 (bytes_of_lem s.args.body.now (λ k. ((known att).shared-slice-known.given k).fits)) (sixteen att) att.execute.ensures put.set-tuple-count.ensures
 

@@ -16,7 +16,7 @@ returns-2 : tie.Need-returns-2
 returns-2 c =
     let s = c.before.before.before in
     let there : s.args.i < s.args.n = omega (arith, c.before.if1.false) in
-    reach_number _ _ _ _ _ c.number_at_lem.ensures there
+    reach_number _ _ _ _ _ c.number_at.ensures there
 
 pub reaches-spec : {M : Type 1} → statement M
 reaches-spec = tie.close (tie.spec returns number-at-requires returns-2)

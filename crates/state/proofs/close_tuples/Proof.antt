@@ -22,7 +22,7 @@ part-drop-space-end : tie.Need-slice-bounds-drop-space-end
 part-drop-space-end c = omega arith
 
 drop-space-requires : tie.Need-drop-space-requires
-drop-space-requires c κs = is_section _ _ (first c.before).requires c.before.tuple_count_lem.ensures.0
+drop-space-requires c κs = is_section _ _ (first c.before).requires c.before.tuple_count.ensures.0
 
 set-tuple-count-requires : tie.Need-set-tuple-count-requires
 set-tuple-count-requires c κs = (omega arith, c.before.before.before.drop-space.ensures.few)
@@ -35,7 +35,7 @@ returns c =
     let put = c.before.before in
     let dropped = put.before.before.before.before in
     let counted = dropped.before.before in
-    clears (first counted).requires counted.tuple_count_lem.ensures.0 put.set-tuple-count.ensures (first counted).args.space dropped.drop-space.ensures
+    clears (first counted).requires counted.tuple_count.ensures.0 put.set-tuple-count.ensures (first counted).args.space dropped.drop-space.ensures
 
 pub close-tuples-spec : {M : Type 1} → statement M
 close-tuples-spec =

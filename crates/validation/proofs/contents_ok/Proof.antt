@@ -94,14 +94,14 @@ tuples-ok-requires c κs =
     let one = m.before in
     let n = count one in
     let s = start n in
-    (part_long s.args.b.now tuples_part (within s.args.b.now tuples_end s.pre.0 tt), omega (arith, m.tuple_count_lem.ensures.0, (counts n).tuples), (are-listed one).0, (are-listed one).1)
+    (part_long s.args.b.now tuples_part (within s.args.b.now tuples_end s.pre.0 tt), omega (arith, m.tuple_count.ensures.0, (counts n).tuples), (are-listed one).0, (are-listed one).1)
 
 returns-2 : tie.Need-returns-2
 returns-2 c =
     let tuples = c.before in
     let m = tuples.before.before in
     let one = m.before in
-    no_tuples _ _ _ _ 0 (count one).space_count.ensures.0 (next one).next.ensures.0 _ one.before.are-legal.ensures (not-false _ one.if1.false) m.tuple_count_lem.ensures.0 _ tuples.tuples-ok.ensures (not-true _ c.if2.true)
+    no_tuples _ _ _ _ 0 (count one).space_count.ensures.0 (next one).next.ensures.0 _ one.before.are-legal.ensures (not-false _ one.if1.false) m.tuple_count.ensures.0 _ tuples.tuples-ok.ensures (not-true _ c.if2.true)
 
 waiting-count-requires : tie.Need-waiting-count-requires
 waiting-count-requires c κs = let s = start (count (first c)) in within s.args.b.now header_size s.pre.0 tt
@@ -129,7 +129,7 @@ returns-3 c =
     let two = k.before in
     let m = tuples two in
     let one = first two in
-    no_queue _ _ _ _ _ (count one).space_count.ensures.0 (next one).next.ensures.0 _ one.before.are-legal.ensures (not-false _ one.if1.left) m.tuple_count_lem.ensures.0 _ two.before.tuples-ok.ensures (not-false _ two.if2.false) k.waiting_count.ensures.0 _ queue.is-queue.ensures (not-true _ c.if3.true)
+    no_queue _ _ _ _ _ (count one).space_count.ensures.0 (next one).next.ensures.0 _ one.before.are-legal.ensures (not-false _ one.if1.left) m.tuple_count.ensures.0 _ two.before.tuples-ok.ensures (not-false _ two.if2.false) k.waiting_count.ensures.0 _ queue.is-queue.ensures (not-true _ c.if3.true)
 
 last-requires : tie.Need-last-requires
 last-requires c κs = let s = start (count (first (waits c).before)) in within s.args.b.now header_size s.pre.0 tt
@@ -149,7 +149,7 @@ waits-ok-requires c κs =
       (are-listed one).0,
       (are-listed one).1,
       part_long s.args.b.now tuples_part (within s.args.b.now tuples_end s.pre.0 tt),
-      omega (arith, (tuples two).tuple_count_lem.ensures.0, (counts n).tuples),
+      omega (arith, (tuples two).tuple_count.ensures.0, (counts n).tuples),
     )
 
 returns-4 : tie.Need-returns-4
@@ -161,7 +161,7 @@ returns-4 c =
     let two = k.before in
     let m = tuples two in
     let one = first two in
-    then_waits _ _ _ _ _ (count one).space_count.ensures.0 (next one).next.ensures.0 _ one.before.are-legal.ensures (not-false _ one.if1.left) m.tuple_count_lem.ensures.0 _ two.before.tuples-ok.ensures (not-false _ two.if2.left) k.waiting_count.ensures.0 _ three.before.is-queue.ensures
+    then_waits _ _ _ _ _ (count one).space_count.ensures.0 (next one).next.ensures.0 _ one.before.are-legal.ensures (not-false _ one.if1.left) m.tuple_count.ensures.0 _ two.before.tuples-ok.ensures (not-false _ two.if2.left) k.waiting_count.ensures.0 _ three.before.is-queue.ensures
     (not-false _ three.if3.false) _ last.last.ensures.0 _ hosts.hosts.ensures.0 _ c.waits-ok.ensures
 
 pub contents-ok-spec : {M : Type 1} → statement M

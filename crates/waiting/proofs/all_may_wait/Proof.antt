@@ -39,7 +39,7 @@ module _ (c : tie.After-may-wait invariant-loop decreases-loop) where
 returns : tie.Need-returns invariant-loop decreases-loop
 returns c =
     let r = c.before in
-    pass_no _ _ 0 no_waiting _ (turn r).before.loop.invariant (omega (arith, (turn r).loop-test.true, (let s = start r in items_length waiting_shape s.args.waiting.now s.args.n))) (sym r.may_wait_lem.ensures ∙ not-true _ c.if1.true)
+    pass_no _ _ 0 no_waiting _ (turn r).before.loop.invariant (omega (arith, (turn r).loop-test.true, (let s = start r in items_length waiting_shape s.args.waiting.now s.args.n))) (sym r.may_wait.ensures ∙ not-true _ c.if1.true)
 
 add-i : tie.Need-overflow-add-i invariant-loop decreases-loop
 add-i c = search rules
@@ -50,7 +50,7 @@ loop-less c = search rules
 loop-again : tie.Need-loop-preserved invariant-loop decreases-loop
 loop-again c =
     let r = c.before in
-    pass_more _ _ 0 no_waiting _ (turn r).before.loop.invariant (omega (arith, (turn r).loop-test.true, (let s = start r in items_length waiting_shape s.args.waiting.now s.args.n))) (sym r.may_wait_lem.ensures ∙ not-false _ c.if1.false)
+    pass_more _ _ 0 no_waiting _ (turn r).before.loop.invariant (omega (arith, (turn r).loop-test.true, (let s = start r in items_length waiting_shape s.args.waiting.now s.args.n))) (sym r.may_wait.ensures ∙ not-false _ c.if1.false)
 
 returns-2 : tie.Need-returns-2 invariant-loop decreases-loop
 returns-2 c =

@@ -31,11 +31,11 @@ module _ (c : tie.After-tuple-count) where
   queue-is : waiting_of (queue_lent bytes) waits.waiting_count.result ≡ (decode bytes).waiting
   queue-is = queue_read bytes waits.waiting_count.result start.pre.0 waits.waiting_count.ensures.0
 
-  tuples_are : tuples_of (tuples_lent bytes) c.tuple_count_lem.result ≡ (decode bytes).tuples
-  tuples_are = tuples_read bytes c.tuple_count_lem.result start.pre.0 c.tuple_count_lem.ensures.0
+  tuples_are : tuples_of (tuples_lent bytes) c.tuple_count.result ≡ (decode bytes).tuples
+  tuples_are = tuples_read bytes c.tuple_count.result start.pre.0 c.tuple_count.ensures.0
 
-  section : Section (tuples_lent bytes) c.tuple_count_lem.result
-  section = is_section bytes c.tuple_count_lem.result start.pre.0 c.tuple_count_lem.ensures.0
+  section : Section (tuples_lent bytes) c.tuple_count.result
+  section = is_section bytes c.tuple_count.result start.pre.0 c.tuple_count.ensures.0
 
 -- the oldest is found
 module _ (c : tie.After-i) where
@@ -51,7 +51,7 @@ module _ (c : tie.After-i) where
   abbrev choice : Choice
   choice = c.i.given.0.1.0
 
-  runs : RunsAt (queue_lent (bytes counted)) (waits counted).waiting_count.result (tuples_of (tuples_lent (bytes counted)) counted.tuple_count_lem.result) index choice
+  runs : RunsAt (queue_lent (bytes counted)) (waits counted).waiting_count.result (tuples_of (tuples_lent (bytes counted)) counted.tuple_count.result) index choice
   runs = subst (Answers _ _ _) c.i.given.1 asked.oldest-ready.ensures
 
   woke : WokenAt (decode (bytes counted)) index

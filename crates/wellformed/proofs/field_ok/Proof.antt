@@ -24,7 +24,7 @@ returns-2 : tie.Need-returns-2
 returns-2 c =
     let read = c.before in
     let yes = read.before.before in
-    field_used _ _ _ yes.before.kind.ensures _ read.bits.ensures _ yes.if1.true c.legal_value_lem.ensures
+    field_used _ _ _ yes.before.kind.ensures _ read.bits.ensures _ yes.if1.true c.legal_value.ensures
 
 bits-requires-2 : tie.Need-bits-requires-2
 bits-requires-2 c κs = search rules

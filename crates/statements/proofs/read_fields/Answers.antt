@@ -1,0 +1,23 @@
+-- `statements::read_fields` meets its contract. Assumes nothing.
+use mathlib.Core.Path.{refl}
+use Rattle.basis.specs.Sizes.{most_fields}
+use Rattle.statements.specs.Flat.{has_form}
+use Rattle.statements.specs.Several.{all_replicate, fields_start, fields_turn, fields_stop, fields_done}
+use Rattle.statements.proofs.read_fields.Goals as goal
+
+pub loop-i-init : goal.loop-i-init
+loop-i-init c = fields_start _ _ _ _ c.requires.1 c.requires.2 refl (all_replicate has_form most_fields _ c.no_field-none.ensures)
+
+pub returns-then-next-eq0 : goal.returns-then-next-eq0
+returns-then-next-eq0 c = (
+      fields_stop c.args.b.now c.args.at c.args.count c.loop-i.fields c.loop-i.fields c.loop-i.end c.loop-i.i c.read_field-r.result
+          c.loop-i-test.true c.loop-i.invariant c.read_field-r.ensures.0 c.if-next-eq0.true,
+      c.loop-i.invariant.formed,
+    )
+
+pub loop-i-preserved : goal.loop-i-preserved
+loop-i-preserved c = fields_turn c.args.b.now c.args.at c.args.count c.loop-i.fields c.loop-i.end c.loop-i.i c.read_field-r.result
+    c.requires.0 c.loop-i-test.true c.loop-i.invariant c.read_field-r.ensures.0 c.read_field-r.ensures.1 c.if-next-eq0.false
+
+pub returns : goal.returns
+returns c = (fields_done c.args.b.now c.args.at c.args.count c.loop-i.fields c.loop-i.end c.loop-i.i c.loop-i-test.false c.loop-i.invariant, c.loop-i.invariant.formed)
