@@ -1,6 +1,7 @@
 -- `fields::bind_kind` meets its contract. Assumes nothing.
 use mathlib.Core.Path.{sym, ◌∙◌}
 use native.Mathlib.Omega.{arith}
+use Rattle.model.specs.Statement.{Binder}
 use Rattle.model.proofs.BinderLaws as laws
 use Rattle.statements.specs.Flat.{field_is}
 use Rattle.statements.specs.Binds.{binder_in, binds_some, binds_none}

@@ -5,6 +5,7 @@ use native.Mathlib.Omega.{arith}
 use lib.ListN.{length}
 use Rattle.replies.specs.WrittenLaws.{passed_none, passed_yes, passed_no, put_all}
 use Rattle.replies.proofs.put_values.Goals as goal
+use Rattle.replies.proofs.put_values.Goals.{then-bound-x, else-bound-x}
 
 pub loop-x-init : goal.loop-x-init
 loop-x-init c = let a = c.args in (omega arith, omega arith, passed_none a.bound a.kinds a.bits a.out.now)
@@ -24,14 +25,13 @@ overflow_add-count-then-bound-x c = omega (arith, c.loop-x.invariant.2.few)
 pub loop-x-preserved : goal.loop-x-preserved
 loop-x-preserved c = let a = c.args in
     let p = c.loop-x.invariant.2 in
-    ⊎_elim
-    (λ w. (
-      omega arith,
-      ap length w.5 ∙ (w.2.kept.0 ∙ c.loop-x.invariant.1),
-      rw (w.5, w.6) (passed_yes a.bound a.kinds a.bits c.loop-x.x a.out.now c.loop-x.out w.2.last.0 c.loop-x.count w.0.taken (omega (arith, p.few)) p w.2.ensures),
-    ))
-    (λ w. (omega arith, ap length w.1 ∙ c.loop-x.invariant.1, rw (w.1, w.2) (passed_no a.bound a.kinds a.bits c.loop-x.x a.out.now c.loop-x.out c.loop-x.count w.0.left p)))
-    c.if-bound-x.branch
+    elim c.if-bound-x.branch [
+      then-bound-x w ↦ (
+        omega arith,
+        ap length w.out-is ∙ (w.put_value.auto.out ∙ c.loop-x.invariant.1),
+        rw (w.out-is, w.count-is) (passed_yes a.bound a.kinds a.bits c.loop-x.x a.out.now c.loop-x.out w.put_value.new.out c.loop-x.count w.if-bound-x.true (omega (arith, p.few)) p w.put_value.ensures),
+      )
+    | else-bound-x w ↦ (omega arith, ap length w.out-is ∙ c.loop-x.invariant.1, rw (w.out-is, w.count-is) (passed_no a.bound a.kinds a.bits c.loop-x.x a.out.now c.loop-x.out c.loop-x.count w.if-bound-x.false p)) ]
 
 pub shape_of-out : goal.shape_of-out
 shape_of-out c = c.loop-x.invariant.1
