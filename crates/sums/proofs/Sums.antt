@@ -1,11 +1,9 @@
 -- The arms of `plus` and `minus`: each is a table with a row for whole numbers and one for metres, and none else. Assumes nothing.
 use Prim.Native.Nat.{ℕ}
 use mathlib.Core.Path.{◌≡◌, refl, sym, ap, ap₂, ◌∙◌, subst}
-use mathlib.Core.Logic.{◌⊎◌, inl, inr}
 use mathlib.Core.Bool.{Bool, true, false}
 use mathlib.Core.Option.{Option, none}
 use native.Mathlib.Omega.{arith}
-use denote.Enum.Declared.{tag_of}
 use lib.Dec.{T}
 use lib.IntN.{ℤ, ◌+ℤ◌, ◌-ℤ◌}
 use lib.Ieee.{Float, binary32, add, sub, fits, of_bits, to_bits}
@@ -18,7 +16,6 @@ use Rattle.values.specs.Meaning.{value_is, answered}
 use Rattle.sums.specs.Meaning.{off_range, sum_of, Alike}
 use Rattle.values.specs.declared.Value.{Value}
 use Rattle.values.specs.declared.Value.TheVariants.{Whole, Name, Metres}
-use Rattle.values.specs.contracts.Value.{the_type}
 use Rattle.values.proofs.Twos.{again}
 
 -- an operation on the bits of two values of kind k: `g` on whole numbers, `f` on metres
@@ -33,11 +30,16 @@ pub minus_table : Table minus ◌-ℤ◌ (sub binary32)
 unfolding minus whole_minus metres_minus
 minus_table = record { rows = λ k a b. refl }
 
--- the variants stand in the order of their kinds
-tag_kind : (v : Value) → tag_of the_type v ≡ (value_is v).kind
-tag_kind (Whole z) = refl
-tag_kind (Name n) = refl
-tag_kind (Metres x) = refl
+-- a value of one kind is that kind's variant
+not_whole : (v : Value) → (value_is v).kind ≡ 0 → ((x : ℤ) → v ≡ Whole x → ⊥) → ⊥
+not_whole (Whole z) e never = never z refl
+not_whole (Name n) e never = omega arith
+not_whole (Metres x) e never = omega arith
+
+not_metres : (v : Value) → (value_is v).kind ≡ 2 → ((x : Float) → v ≡ Metres x → ⊥) → ⊥
+not_metres (Whole z) e never = omega arith
+not_metres (Name n) e never = omega arith
+not_metres (Metres x) e never = never x refl
 
 module _ {operation : (k a b : ℕ) → Option Model.Value} {g : ℤ → ℤ → ℤ} {f : Float → Float → Float} (t : Table operation g f) (a b : Value) (p : Alike a b) where
   abbrev Gives : Option Model.Value → Type 0
@@ -55,15 +57,11 @@ module _ {operation : (k a b : ℕ) → Option Model.Value} {g : ℤ → ℤ →
   unfolding no_sum
   name_row n d = rw (← p.kind, d) (ap (answered off_range) (t.rows 1 n (value_is b).bits))
 
-  alone : (k l m : ℕ) → (value_is a).kind ≡ k → (k ≡ l → ⊥) → (k ≡ m → ⊥) → (tag_of the_type b ≡ l) ⊎ (tag_of the_type b ≡ m) → Gives none
-  alone k l m d no-l no-m (inl e) = absurd (no-l (sym d ∙ p.kind ∙ sym (tag_kind b) ∙ e))
-  alone k l m d no-l no-m (inr e) = absurd (no-m (sym d ∙ p.kind ∙ sym (tag_kind b) ∙ e))
+  pub whole_alone : (x : ℤ) → a ≡ Whole x → ((y : ℤ) → b ≡ Whole y → ⊥) → Gives none
+  whole_alone x d never = absurd (not_whole b (sym p.kind ∙ ap (λ (v : Value). (value_is v).kind) d) never)
 
-  pub whole_alone : (x : ℤ) → a ≡ Whole x → (tag_of the_type b ≡ 1) ⊎ (tag_of the_type b ≡ 2) → Gives none
-  whole_alone x d = alone 0 1 2 (ap (λ (v : Value). (value_is v).kind) d) (λ e. omega arith) (λ e. omega arith)
-
-  pub metres_alone : (x : Float) → a ≡ Metres x → (tag_of the_type b ≡ 0) ⊎ (tag_of the_type b ≡ 1) → Gives none
-  metres_alone x d = alone 2 0 1 (ap (λ (v : Value). (value_is v).kind) d) (λ e. omega arith) (λ e. omega arith)
+  pub metres_alone : (x : Float) → a ≡ Metres x → ((y : Float) → b ≡ Metres y → ⊥) → Gives none
+  metres_alone x d never = absurd (not_metres b (sym p.kind ∙ ap (λ (v : Value). (value_is v).kind) d) never)
 
 pub metres_legal : (a b : Value) → Alike a b → (x y : Float) → a ≡ Metres x → b ≡ Metres y → T (legal_value (value metres (to_bits binary32 x))) × T (legal_value (value metres (to_bits binary32 y)))
 metres_legal a b p x y d e = (subst (λ (v : Value). T (legal_value (value_is v))) d p.first, subst (λ (v : Value). T (legal_value (value_is v))) e p.second)

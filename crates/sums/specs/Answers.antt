@@ -1,7 +1,7 @@
 -- What a caller learns of the answer of `add` on the bits of two legal values of kind k: a sum that is given is a legal value of the kind. Assumes nothing.
 use Rattle.std.specs.Prelude.{ℕ, ◌≡◌, Bool, true, false, T}
 use Rattle.std.proofs.Common.{sym, ap, ◌∙◌}
-use Rattle.std.proofs.Math.Option.{Option, none, some}
+use Rattle.std.proofs.Math.Option.{none, some}
 use Rattle.model.specs.Value.{value, legal_value}
 use Rattle.model.proofs.SumLaws.{plus_legal, minus_legal}
 use Rattle.values.specs.declared.Value.{Value}
