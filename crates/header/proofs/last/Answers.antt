@@ -1,0 +1,7 @@
+-- `header::last` meets its contract. Assumes nothing.
+use mathlib.Core.Path.{◌∙◌}
+use Rattle.header.specs.RowLaws.{last_says}
+use Rattle.header.proofs.last.Goals as goal
+
+pub returns : goal.returns
+returns c = (c.number.ensures.0 ∙ last_says _, c.number.ensures.0)
