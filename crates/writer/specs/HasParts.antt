@@ -9,7 +9,7 @@ use Rattle.model.specs.Legal.{is_space}
 use Rattle.statements.specs.At.{which}
 use Rattle.statements.specs.Codes.{spaces_one, spaces_two}
 use Rattle.statements.specs.declared.Operation.{Operation}
-use Rattle.statements.specs.Flat.{codes, forms, has_form, fields_are, operation_of, operation_is}
+use Rattle.statements.specs.Flat.{codes, has_form, fields_are, operation_of, operation_is}
 use Rattle.writer.specs.Writer.{true_code, two_spaces, is_handed}
 
 -- what an operation has after its code, where that is not true
