@@ -1,0 +1,13 @@
+-- `wellformed::fields_ok` meets its contract. Assumes nothing.
+use Prim.Native.Nat.{◌-◌, ◌≤◌}
+use mathlib.Core.Path.{◌≡◌}
+use Rattle.basis.specs.Sizes.{most_fields}
+use Rattle.tuples.specs.Entry.{values_in, values_from, each_field}
+use Rattle.wellformed.specs.Fields.{field_ok_at}
+use Rattle.wellformed.proofs.fields_ok.Given as goal
+
+abbrev pub invariant-loop-f : goal.invariant-loop-f
+invariant-loop-f l = (l.f ≤ most_fields) × (each_field (field_ok_at l.count) 0 (values_in l.tuples l.i most_fields) ≡ each_field (field_ok_at l.count) l.f (values_from l.tuples l.i most_fields l.f))
+
+abbrev pub decreases-loop-f : goal.decreases-loop-f
+decreases-loop-f l = most_fields - l.f
