@@ -1,3 +1,2 @@
 // The writer's calls one after the other: definitions and laws alone.
 #![tactic(auto)]
-

@@ -13,4 +13,4 @@ pub returns-then-not-head_legal : goal.returns-then-not-head_legal
 returns-then-not-head_legal c = body_no_head c.args.b.now c.if-b-gt-MOST_BODY.false c.if-b-lt-BRANCHES_AT.false (λ x. (c.type_inv.b x).fits) (sym c.head_legal.ensures ∙ c.if-not-head_legal.true)
 
 pub returns : goal.returns
-returns c = body_branches c.args.b.now c.if-b-gt-MOST_BODY.false c.if-b-lt-BRANCHES_AT.false (λ x. (c.shared_slice_known-3-1.given x).fits) (sym c.head_legal.ensures ∙ c.if-not-head_legal.false) c.branches_ok.result c.size.result c.size.ensures.0 c.branches_ok.ensures
+returns c = body_branches c.args.b.now c.if-b-gt-MOST_BODY.false c.if-b-lt-BRANCHES_AT.false (λ x. (c.type_inv.b x).fits) (sym c.head_legal.ensures ∙ c.if-not-head_legal.false) c.branches_ok.result c.size.result c.size.ensures.0 c.branches_ok.ensures
