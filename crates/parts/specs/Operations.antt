@@ -8,7 +8,6 @@ use native.Mathlib.Omega.{arith}
 use Rattle.std.proofs.Math.ListN.{length-append}
 use Rattle.std.proofs.lemmas.List.{length-map}
 use Rattle.std.proofs.Math.Seq.{length-take-le}
-use Rattle.basis.specs.Lists.{all}
 use Rattle.basis.specs.ListLaws.{Each, each_nil, all_at}
 use Rattle.basis.specs.Numbers.{big_endian}
 use Rattle.basis.specs.NumberLaws.{big_endian_length}
