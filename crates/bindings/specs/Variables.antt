@@ -1,10 +1,10 @@
 -- The variables of a branch as the code keeps them: for each number whether it is bound, and the kind and bits of its value. Assumes nothing.
 use Rattle.std.specs.Prelude.{◌≡◌, refl, ℕ, zero, suc, Bool, true, false, List, [], ◌∷◌, length, get_or, set, replicate}
 use Rattle.std.proofs.Common.{sym, ap, ◌∙◌, arith}
-use Rattle.std.proofs.Math.Option.{Option, none, some}
+use Rattle.std.proofs.Math.Option.{none, some}
 use Rattle.basis.specs.Choice.{provided}
 use Rattle.basis.specs.Sizes.{variables}
-use Rattle.model.specs.Value.{Value, value, whole}
+use Rattle.model.specs.Value.{value, whole}
 use Rattle.model.specs.Matching.{Bindings, unbound, value_of}
 use Rattle.bindings.specs.declared.Vars.{Vars}
 
