@@ -1,21 +1,20 @@
 -- An operation by itself, read off bytes that are nothing more. Assumes nothing.
-use Rattle.std.specs.Prelude.{◌≡◌, Bool, ◌&&◌, ◌⊎◌, length, take, drop, leb, ltb, eqb}
+use Rattle.std.specs.Prelude.{◌≡◌, Bool, ◌&&◌, ◌⊎◌, length, take, drop, leb, eqb}
 use Rattle.std.proofs.Math.Path.{refl, sym}
-use Rattle.std.proofs.Common.{ap, ◌∙◌, arith, true≢false, inl, inr, length-drop, eq-eqb, ne_eqb, leb-false, lt-ltb}
-use Prim.Native.Nat.{ℕ, zero, suc, ◌+◌, ◌-◌, ◌≤◌, ◌<◌}
+use Rattle.std.proofs.Common.{ap, ◌∙◌, arith, true≢false, inl, inr, length-drop, eq-eqb, ne_eqb}
+use Prim.Native.Nat.{ℕ, zero, suc, ◌-◌, ◌≤◌, ◌<◌}
 use Rattle.std.proofs.Math.Bool.{true, false, not, cond, and-false}
 use Rattle.std.proofs.Math.Option.{Option, none, some, some-injective, none-ne-some}
 use mathlib.Core.List.{List, [], ◌∷◌}
-use Rattle.std.proofs.lemmas.Bool.{lt-leb}
 use Rattle.basis.specs.Choice.{maybe, is_some, provided}
 use Rattle.basis.specs.Lists.{is_empty}
-use Rattle.basis.specs.Sizes.{most_fields, variables}
+use Rattle.basis.specs.Sizes.{most_fields}
 use Rattle.model.specs.Statement as model
 use Rattle.model.specs.Statement.{always, lookup, deposit, transfer}
 use Rattle.model.specs.Reading.{whole_of, operation}
 use Rattle.model.specs.Legal.{no_kinds, is_space, field_count, legal_fields, legal_lookup, template_forms, fields_of}
 use Rattle.model.specs.Meeting.{every_kind, lookup_alone, lookup_in}
-use Rattle.statements.specs.At.{which, read_at, passed, found, found_some, found_none, ReadAt, read_at_some, read_at_none}
+use Rattle.statements.specs.At.{which, read_at, passed, found, ReadAt, read_at_some, read_at_none}
 use Rattle.statements.specs.Operations.{suffix_operation}
 use Rattle.statements.specs.Flat.{few_fields, operation_at, operation_of, operation_is, fields_are, Reads, read_is}
 use Rattle.statements.specs.declared.Operation.{Operation}

@@ -1,16 +1,15 @@
 -- The tests of an operation by itself, one after the other. Assumes nothing.
-use Rattle.std.specs.Prelude.{◌≡◌, refl, ℕ, zero, suc, ◌+◌, ◌≤◌, ◌<◌, Bool, true, false, ◌&&◌, ◌||◌, List, [], ◌∷◌, map, length, take, drop, replicate, leb, ltb, eqb}
+use Rattle.std.specs.Prelude.{◌≡◌, refl, ℕ, zero, suc, ◌+◌, ◌≤◌, ◌<◌, Bool, true, false, ◌&&◌, ◌||◌, List, [], length, take, drop, replicate, eqb}
 use Rattle.std.proofs.Math.Path.{sym, ap}
-use Rattle.std.proofs.Common.{◌∙◌, arith, add-one, drop_of_length-le, length-take-le, lt-ltb, eq-eqb, ne_eqb}
+use Rattle.std.proofs.Common.{◌∙◌, arith, add-one, drop_of_length-le, lt-ltb, eq-eqb, ne_eqb}
 use Rattle.std.proofs.Math.ListN.{get_or}
-use Rattle.std.proofs.lemmas.List.{length-map}
 use Rattle.basis.specs.Choice.{is_some, provided}
 use Rattle.basis.specs.Lists.{any}
-use Rattle.basis.specs.Sizes.{most_fields, variables}
+use Rattle.basis.specs.Sizes.{variables}
 use Rattle.model.specs.Statement as model
-use Rattle.model.specs.Legal.{Kinds, no_kinds, form_of, is_space, field_count, legal_fields, legal_lookup, template_forms, bind_kinds}
-use Rattle.model.specs.Meeting.{every_kind, lookup_alone, refers}
-use Rattle.statements.specs.Flat.{field_of, field_is, fields_are, operation_is}
+use Rattle.model.specs.Legal.{no_kinds, is_space, field_count, legal_fields, legal_lookup, template_forms}
+use Rattle.model.specs.Meeting.{every_kind, refers}
+use Rattle.statements.specs.Flat.{field_is, fields_are, operation_is}
 use Rattle.statements.specs.declared.Field.{Field}
 use Rattle.statements.specs.declared.Operation.{Operation}
 use Rattle.fields.specs.declared.Bound.{Bound}
