@@ -144,7 +144,7 @@ module _ (f : ℕ → Bool) (b : List ℕ) (g : Bare) (t : Bool) (e : t ≡ name
 module _ (f : ℕ → Bool) (b : List ℕ) (at others : ℕ) (g : Bare) (h : PassedBranch b at others g) (r : ℕ) (p : PastBranch f b g r) where
   pub branch_names : eqb r 0 ≡ names_some f h.0.first
   unfolding operations any
-  branch_names = p.stops ∙ rw (same_names f g h.0.first.guard h.1, h.0.is_IsBody)
+  branch_names = p.stops ∙ rw (same_names f g h.0.first.guard h.1, h.0.is_body)
 
   pub branch_stop : (r ≡ 0 → ⊥) → r ≡ h.0.stop
   branch_stop n = stop_is b at others g.end r h.0 p.within (p.goes n)
