@@ -121,6 +121,8 @@ has_parts st t = go st.branches refl (branches_parts st.branches (legal_branches
   where
     made_of_lem : (bs : List Branch) (xs : List (Addition Operation)) → st.branches ≡ bs → Parts xs (additions bs) → 1 ≤ length bs → HandedStatement st
     made_of_lem [] xs e p one = absurd (omega arith)
+    made_of_lem (b ∷ bs) [] e p one = elim p [ ]
+    made_of_lem (b ∷ bs) (operation _ ∷ xs) e p one = elim p [ ]
     made_of_lem (b ∷ bs) (branch g ∷ xs) e (branch_part h ps) one = record { guard = g; later = xs; are = rw e (branch_part h ps) }
 
     go : (bs : List Branch) → st.branches ≡ bs → HandedAll (additions bs) → 1 ≤ length st.branches → HandedStatement st

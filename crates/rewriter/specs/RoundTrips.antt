@@ -102,6 +102,11 @@ grown_written : (buffer : List ℕ) (st : Statement) (xs : List (Addition Operat
     → length (statement_bytes (grow_all st ys)) ≤ length buffer → Rewritten (holding buffer st) xs buffer (statement_bytes (grow_all st ys))
 unfolding grow_all hand_all
 grown_written buffer st [] [] no_part one t h = record { done = last_done (holding_done buffer st); is = refl }
+grown_written buffer st [] (_ ∷ ys) ps one t h = elim ps [ ]
+grown_written buffer st (operation p ∷ xs) [] ps one t h = elim ps [ ]
+grown_written buffer st (operation p ∷ xs) (branch o ∷ ys) ps one t h = elim ps [ ]
+grown_written buffer st (branch p ∷ xs) [] ps one t h = elim ps [ ]
+grown_written buffer st (branch p ∷ xs) (operation o ∷ ys) ps one t h = elim ps [ ]
 grown_written buffer st (operation p ∷ xs) (operation o ∷ ys) (operation_part e ps) one t h =
     let f = front st (operation o ∷ ys) one t in
     let g = front (grow st (operation o)) ys (some_grow st (operation o) one) t in
@@ -118,6 +123,7 @@ grown_written buffer st (branch p ∷ xs) (branch o ∷ ys) (branch_part e ps) o
 begun_written : (buffer : List ℕ) (st : Statement) (bs : List Branch) (g : Operation) (xs : List (Addition Operation)) → st.branches ≡ bs → Parts (branch g ∷ xs) (additions bs) → T (is_writable st)
     → length (statement_bytes st) ≤ length buffer → Rewritten (begin_on buffer st.host st.process g) xs buffer (statement_bytes st)
 unfolding additions
+begun_written buffer st [] g xs q ps t h = elim ps [ ]
 begun_written buffer st (b ∷ bs) g xs q (branch_part e ps) t h =
     let h₀ : ℕ = st.host in
     let p₀ : ℕ = st.process in

@@ -1,3 +1,2 @@
 // The round trips of the writer: definitions and theorems in specs/ alone.
 #![tactic(auto)]
-
