@@ -5,13 +5,13 @@ use Prim.Native.Nat.{ℕ, zero, suc, ◌+◌, ◌-◌, ◌≤◌, ◌<◌}
 use native.Mathlib.Omega.{arith}
 use Rattle.std.proofs.Math.Numerals.{add-one}
 use Rattle.std.proofs.Math.Nat.{sub-zero}
-use Rattle.std.specs.Prelude.{Bool, true, false, ◌&&◌, ◌||◌, cond, length, get_or, eqb}
+use Rattle.std.specs.Prelude.{Bool, true, false, ◌&&◌, cond, length, get_or, eqb}
 use Rattle.std.proofs.Math.Bool.{and-false}
 use Rattle.std.proofs.Math.Option.{Option, none, some}
 use mathlib.Core.List.{List, [], ◌∷◌}
 use Rattle.basis.specs.Choice.{maybe, provided}
 use Rattle.model.specs.Statement.{Field}
-use Rattle.model.specs.Value.{range, at_most}
+use Rattle.model.specs.Value.{at_most}
 use Rattle.model.specs.Matching.{TemplateField}
 use Rattle.model.specs.Meeting.{refers, template_of, overlap, fields_meet, each_meets, meet, meeting, lookup_in, can_meet}
 use Rattle.statements.specs.declared.OperationRead.{OperationRead}
