@@ -11,7 +11,7 @@ use Rattle.std.proofs.Math.Seq.{get_or-append_seam}
 use Rattle.std.proofs.Math.Dec.{leb}
 use borrow.Author.Tests.{le-leb, lt-leb}
 use Rattle.basis.specs.Choice.{maybe, provided}
-use Rattle.basis.specs.Lists.{Found, first, remove_at, keep}
+use Rattle.basis.specs.Lists.{first, remove_at, keep}
 use Rattle.basis.specs.ListLaws.{Each, First, first_some, first_below}
 use Rattle.basis.specs.Sizes.{space_numbers, most_tuples}
 use Rattle.model.specs.Value.{Value}

@@ -1,0 +1,26 @@
+-- `operations::transfer` meets its contract. Assumes nothing.
+use mathlib.Core.Path.{refl, subst}
+use Rattle.moves.specs.declared.Copied.{Copied}
+use Rattle.moves.specs.Moves.{relocated, Copies}
+use Rattle.tuples.specs.Section.{tuples_of}
+use Rattle.bindings.specs.Fields.{fields_in}
+use Rattle.bindings.specs.Variables.{bindings_of}
+use Rattle.operations.specs.Performing.{transfer_moved, transfer_full, transfer_copied}
+use Rattle.operations.proofs.transfer.Goals as goal
+
+pub returns-then-withdraws : goal.returns-then-withdraws
+returns-then-withdraws c =
+    let a = c.args in
+    transfer_moved (bindings_of a.v) a.op.from a.op.to (fields_in a.op) a.tuples.now a.n a.v refl c.template_of-t.result c.template_of-t.ensures.0 _ a.withdraws c.if-withdraws.true c.move_all.ensures
+
+pub returns-in-Now : goal.returns-in-Now
+returns-in-Now c =
+    let a = c.args in
+    transfer_copied (bindings_of a.v) a.op.from a.op.to (fields_in a.op) a.tuples.now a.n a.v refl c.template_of-t.result c.template_of-t.ensures.0 _ _ a.withdraws c.if-withdraws.false
+    (subst (λ (r : Copied). Copies r a.tuples.now c.copy_all.new.tuples a.n (relocated c.template_of-t.result a.op.to (tuples_of a.tuples.now a.n))) c.in-Now.is c.copy_all.ensures)
+
+pub returns-in-Full : goal.returns-in-Full
+returns-in-Full c =
+    let a = c.args in
+    transfer_full (bindings_of a.v) a.op.from a.op.to (fields_in a.op) a.tuples.now a.n a.v refl c.template_of-t.result c.template_of-t.ensures.0 _ a.withdraws c.if-withdraws.false c.requires.0
+    (subst (λ (r : Copied). Copies r a.tuples.now c.copy_all.new.tuples a.n (relocated c.template_of-t.result a.op.to (tuples_of a.tuples.now a.n))) c.in-Full.is c.copy_all.ensures)
