@@ -9,7 +9,7 @@ use mathlib.Core.List.Memᴰ
 use mathlib.Core.List.{List, [], ◌∷◌, map}
 use Rattle.std.proofs.Math.Dec.{T, leb, leb→le, ltb→lt, lt→ltb}
 use borrow.Author.Tests.{eq-eqb, ne_eqb, le-leb, lt-leb}
-use Rattle.basis.specs.Logic.{and_l, and_r, both, is_true}
+use Rattle.basis.specs.Logic.{and_l, and_r, both}
 use Rattle.basis.specs.Lists.{all, any, pairwise, pieces}
 use Rattle.basis.specs.ListLaws.{Each, all_at, all_of}
 use Rattle.basis.specs.RestLaws.{Passed, passed_none, passed_here, passed_more, passed_all}

@@ -11,7 +11,7 @@ pub use Rattle.basis.specs.PadLaws.{zeros_add, flat_map_append}
 use Rattle.basis.specs.Numbers.{big_endian, number, number_at}
 use Rattle.basis.specs.NumberLaws.{bytes_take, bytes_drop, big_endian_number}
 pub use Rattle.basis.specs.NumberLaws.{bytes_of_lem}
-use Rattle.words.specs.Over.{over, zeros_at}
+use Rattle.words.specs.Over.{over}
 use Rattle.words.specs.OverLaws.{over_mid, over_append}
 use Rattle.words.specs.ZeroLaws.{zerosAt→zeros, zeros→zerosAt}
 use Rattle.sections.specs.Rows.{joined, Wides, Rows, Section, HasRows, rows_from, unused_zero}

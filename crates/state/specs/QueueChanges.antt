@@ -1,5 +1,5 @@
 -- What a statement that waits, one that leaves and a crash do to the queue. Assumes nothing.
-use Rattle.std.specs.Prelude.{◌≡◌, ℕ, ◌+◌, ◌-◌, Bool, List, [], ◌∷◌, ◌++◌, length}
+use Rattle.std.specs.Prelude.{◌≡◌, ℕ, Bool, List, [], ◌∷◌, ◌++◌, length}
 use Rattle.basis.specs.Lists.{keep, remove_at}
 use Rattle.basis.specs.ListLaws.{keep_in}
 use Rattle.model.specs.Statement.{Statement}

@@ -2,7 +2,7 @@
 use Rattle.std.specs.Prelude.{◌≡◌, Bool, true, false, ◌&&◌, length, drop, get_or, T, eqb, leb}
 use Rattle.std.proofs.Math.Path.{refl, sym, ap}
 use Rattle.std.proofs.Common.{◌∙◌, length-drop, drop-cons, drop_at, length-take-le}
-use mathlib.Core.List.{List, [], ◌∷◌, ◌++◌, flat_map}
+use mathlib.Core.List.{List, ◌∷◌, ◌++◌, flat_map}
 use Prim.Native.Nat.{ℕ, zero, suc, ◌+◌, ◌-◌, ◌*◌, ◌^◌, ◌≤◌, ◌<◌}
 use native.Mathlib.Omega.{arith}
 use Rattle.std.proofs.Math.ListN.{take}
@@ -12,7 +12,7 @@ use borrow.Author.Tests.{eq-eqb, ne_eqb, le-leb, lt-leb, lt-ltb, le-ltb}
 use Rattle.basis.specs.Logic.{is_true, true_is}
 use Rattle.basis.specs.Lists.{all, zeros, same_bytes}
 use Rattle.basis.specs.ListLaws.{same_refl, same→eq}
-use Rattle.basis.specs.Numbers.{big_endian, number, number_at}
+use Rattle.basis.specs.Numbers.{big_endian, number_at}
 use Rattle.basis.specs.NumberLaws.{bytes_of_lem, number_at_lt}
 use Rattle.basis.specs.PadLaws.{pad_split}
 use Rattle.basis.specs.Sizes.{space_width, kind_width, bits_width, count_width, most_fields, value_bits_at, value_size, field_count_at, tuple_values_at, tuple_size}
