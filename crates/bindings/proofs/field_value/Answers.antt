@@ -1,4 +1,5 @@
 -- `bindings::field_value` meets its contract. Assumes nothing.
+use native.Mathlib.Omega.{arith}
 use mathlib.Core.Path.{◌∙◌}
 use Rattle.bindings.specs.Variables.{bindings_of}
 use Rattle.bindings.specs.Making.{made_actual, made_reference, made_sum, made_difference, made_other, can_sum, can_difference}
@@ -23,4 +24,4 @@ pub returns-in-4 : goal.returns-in-4
 returns-in-4 c = let a = c.args in c.sum_value-in-4.ensures ∙ made_difference (bindings_of a.v) a.f c.in-4.is
 
 pub returns-in_default : goal.returns-in_default
-returns-in_default c = made_other (bindings_of c.args.v) c.args.f c.in_default.in_default-own.rest.0.0.0.1 c.in_default.in_default-own.rest.0.0.1 c.in_default.in_default-own.rest.0.1 c.in_default.in_default-own.rest.1
+returns-in_default c = made_other (bindings_of c.args.v) c.args.f (λ z. omega arith) (λ z. omega arith) (λ z. omega arith) (λ z. omega arith)

@@ -56,7 +56,7 @@ operations_end-at-requires c = let l = (here (goal.at.operations_end-at-requires
 
 pub overflow_add-i : goal.overflow_add-i
 overflow_add-i c =
-    let byte : count (goal.at.overflow_add-i c).After-pass_operation-guard < 256 = (c.shared_slice_known-2-1.given branch_count_at).fits in
+    let byte : count (goal.at.overflow_add-i c).After-pass_operation-guard < 256 = (c.type_inv.body branch_count_at).fits in
     record { fits = omega (arith, few (goal.at.overflow_add-i c).After-pass_operation-guard) }
 
 pub loop-i-smaller : goal.loop-i-smaller

@@ -1,4 +1,5 @@
 -- `operations::perform` meets its contract. Assumes nothing.
+use native.Mathlib.Omega.{arith}
 use mathlib.Core.Path.{refl, sym, ap, subst}
 use Rattle.model.specs.Execution.{perform}
 use Rattle.tuples.specs.Section.{tuples_of}
@@ -17,7 +18,7 @@ transfer-requires c =
 
 pub transfer-requires-in_default : goal.transfer-requires-in_default
 transfer-requires-in_default c =
-    (c.requires.0, c.requires.1, subst (CanPerform (bindings_of c.args.v)) (sym (code_copy c.args.op c.in_default.if-code-lt5-own.false c.in_default.in_default-own.rest.0.1 c.in_default.in_default-own.rest.1)) c.requires.2)
+    (c.requires.0, c.requires.1, subst (CanPerform (bindings_of c.args.v)) (sym (code_copy c.args.op (omega arith) (λ z. omega arith) (λ z. omega arith))) c.requires.2)
 
 pub returns-in-0 : goal.returns-in-0
 returns-in-0 c =
@@ -42,16 +43,16 @@ pub returns-in-1 : goal.returns-in-1
 returns-in-1 c =
     let a = c.args in
     let r = c.look_up.result in
-    leaves_as _ _ r.outcome r.n r.vars _ (code_in a.op (bindings_of a.v) (tuples_of a.tuples.now a.n) c.in-1.in_default-own.rest.0.0.1 c.in-1.if-code-lt3-own.true) c.look_up.ensures
+    leaves_as _ _ r.outcome r.n r.vars _ (code_in a.op (bindings_of a.v) (tuples_of a.tuples.now a.n) (λ z. omega arith) (omega arith)) c.look_up.ensures
 
 pub returns-in-3 : goal.returns-in-3
 returns-in-3 c =
     let a = c.args in
     let r = c.look_up-in-3.result in
-    leaves_as _ _ r.outcome r.n r.vars _ (code_rd a.op (bindings_of a.v) (tuples_of a.tuples.now a.n) c.in-3.if-code-lt3-own.false c.in-3.if-code-lt5-own.true) c.look_up-in-3.ensures
+    leaves_as _ _ r.outcome r.n r.vars _ (code_rd a.op (bindings_of a.v) (tuples_of a.tuples.now a.n) (omega arith) (omega arith)) c.look_up-in-3.ensures
 
 pub returns-in_default : goal.returns-in_default
 returns-in_default c =
     let a = c.args in
     let r = c.transfer-in_default.result in
-    leaves_as _ _ r.outcome r.n r.vars _ (ap (λ o. perform o (bindings_of a.v) (tuples_of a.tuples.now a.n)) (code_copy a.op c.in_default.if-code-lt5-own.false c.in_default.in_default-own.rest.0.1 c.in_default.in_default-own.rest.1)) c.transfer-in_default.ensures
+    leaves_as _ _ r.outcome r.n r.vars _ (ap (λ o. perform o (bindings_of a.v) (tuples_of a.tuples.now a.n)) (code_copy a.op (omega arith) (λ z. omega arith) (λ z. omega arith))) c.transfer-in_default.ensures
