@@ -19,12 +19,11 @@ loop-j-init c =
     (search rules, bind_first (bindings_of c.args.v) (fields_in c.args.op) c.args.tuples.now c.args.i c.args.op.count c.requires.2 c.requires.0)
 
 pub loop-j-preserved : goal.loop-j-preserved
-loop-j-preserved c =
-    (
-      search rules,
-      c.loop-j.invariant.1 ∙ bind_turn (bindings_of c.loop-j.w) (bindings_of c.bind_field-w.result) c.args.op.fields _ c.args.tuples.now c.args.i c.args.op.count c.loop-j.j
-          c.kind.result c.bits.result c.loop-j-test.true (few (goal.at.loop-j-preserved c).Start) c.kind.ensures c.bits.ensures c.bind_field-w.ensures,
-    )
+loop-j-preserved c = (
+  search rules,
+  c.loop-j.invariant.1 ∙ bind_turn (bindings_of c.loop-j.w) (bindings_of c.bind_field-w.result) c.args.op.fields _ c.args.tuples.now c.args.i c.args.op.count c.loop-j.j
+      c.kind.result c.bits.result c.loop-j-test.true (few (goal.at.loop-j-preserved c).Start) c.kind.ensures c.bits.ensures c.bind_field-w.ensures,
+)
 
 pub returns : goal.returns
 returns c =

@@ -94,11 +94,11 @@ values-preserved c =
       c.values.invariant.0
           ∙ pairs_more same_value a.template a.tuples.now a.i a.template.count c.values.f (one-of-values (goal.at.values-preserved c).Else-f-template)
           (elim c.if-template-f.branch [
-            then-template-f+then-lowest-highest+else-n-lowest w ↦
-              value_same a.template c.values.f v _ w.bits-n.ensures w.if-template-f.true w.if-lowest-highest.true w.if-n-lowest.false
-          | then-template-f+else-lowest-highest+else-not-is_within w ↦
-              value_ranged a.template c.values.f v _ w.bits-n.ensures w.if-template-f.true _ w.is_within.ensures ∙ w.if-not-is_within.false
-          | else-template-f w ↦ value_any a.template c.values.f v w.if-template-f.false
+            | then-template-f+then-lowest-highest+else-n-lowest w ↦
+                value_same a.template c.values.f v _ w.bits-n.ensures w.if-template-f.true w.if-lowest-highest.true w.if-n-lowest.false
+            | then-template-f+else-lowest-highest+else-not-is_within w ↦
+                value_ranged a.template c.values.f v _ w.bits-n.ensures w.if-template-f.true _ w.is_within.ensures ∙ w.if-not-is_within.false
+            | else-template-f w ↦ value_any a.template c.values.f v w.if-template-f.false
           ]),
       omega (arith, one-of-values (goal.at.values-preserved c).Else-f-template),
     )

@@ -38,21 +38,19 @@ relocate-requires c =
     (omega (arith, c.if-m-ge-MOST_TUPLES.false, holds_length tuple_shape _ _ _ c.loop-i.invariant.2), row (goal.at.relocate-requires c).In-loop-i)
 
 pub loop-i-preserved-then-selected : goal.loop-i-preserved-then-selected
-loop-i-preserved-then-selected c =
-    (
-      omega arith,
-      c.relocate.auto.tuples ∙ c.loop-i.invariant.1,
-      copying_yes _ _ c.requires.0 _ c.loop-i.invariant.2 c.loop-i-test.true (sym c.selected.ensures ∙ c.if-selected.true) _
-          c.requires.2 (omega (arith, c.if-m-ge-MOST_TUPLES.false)) c.relocate.ensures,
-    )
+loop-i-preserved-then-selected c = (
+  omega arith,
+  c.relocate.auto.tuples ∙ c.loop-i.invariant.1,
+  copying_yes _ _ c.requires.0 _ c.loop-i.invariant.2 c.loop-i-test.true (sym c.selected.ensures ∙ c.if-selected.true) _
+      c.requires.2 (omega (arith, c.if-m-ge-MOST_TUPLES.false)) c.relocate.ensures,
+)
 
 pub loop-i-preserved : goal.loop-i-preserved
-loop-i-preserved c =
-    (
-      omega arith,
-      c.loop-i.invariant.1,
-      copying_no _ _ c.requires.0 _ c.loop-i.invariant.2 c.loop-i-test.true (sym c.selected.ensures ∙ c.if-selected.false),
-    )
+loop-i-preserved c = (
+  omega arith,
+  c.loop-i.invariant.1,
+  copying_no _ _ c.requires.0 _ c.loop-i.invariant.2 c.loop-i-test.true (sym c.selected.ensures ∙ c.if-selected.false),
+)
 
 pub shape_of-tuples : goal.shape_of-tuples
 shape_of-tuples c = c.loop-i.invariant.1

@@ -31,15 +31,14 @@ pub overflow_add-k : goal.overflow_add-k
 overflow_add-k c = omega (arith, c.loop-i.invariant.4.room, c.loop-i-test.true)
 
 pub loop-i-preserved-then-selected : goal.loop-i-preserved-then-selected
-loop-i-preserved-then-selected c =
-    (
-      omega arith,
-      omega arith,
-      c.relocate.auto.tuples ∙ c.loop-i.invariant.2,
-      c.loop-i.invariant.3,
-      moving_yes _ _ c.requires.0 c.loop-i.invariant.4 _ c.loop-i-test.true (row (goal.at.loop-i-preserved-then-selected c).In-loop-i)
-          (sym c.selected.ensures ∙ c.if-selected.true) c.relocate.ensures,
-    )
+loop-i-preserved-then-selected c = (
+  omega arith,
+  omega arith,
+  c.relocate.auto.tuples ∙ c.loop-i.invariant.2,
+  c.loop-i.invariant.3,
+  moving_yes _ _ c.requires.0 c.loop-i.invariant.4 _ c.loop-i-test.true (row (goal.at.loop-i-preserved-then-selected c).In-loop-i)
+      (sym c.selected.ensures ∙ c.if-selected.true) c.relocate.ensures,
+)
 
 pub slice_bounds-keep_other-end : goal.slice_bounds-keep_other-end
 slice_bounds-keep_other-end c = sym c.loop-i.invariant.3
@@ -50,15 +49,14 @@ keep_other-m-requires c =
     (row (goal.at.keep_other-m-requires c).In-loop-i, h.invariant.3, h.invariant.4.room, h.invariant.1)
 
 pub loop-i-preserved : goal.loop-i-preserved
-loop-i-preserved c =
-    (
-      omega arith,
-      c.keep_other-m.ensures.0,
-      c.keep_other-m.auto.tuples ∙ c.loop-i.invariant.2,
-      c.keep_other-m.auto.held ∙ c.loop-i.invariant.3,
-      moving_no _ _ c.requires.0 c.loop-i.invariant.4 _ _ _ c.loop-i-test.true
-          (sym c.selected.ensures ∙ c.if-selected.false) c.keep_other-m.ensures.1,
-    )
+loop-i-preserved c = (
+  omega arith,
+  c.keep_other-m.ensures.0,
+  c.keep_other-m.auto.tuples ∙ c.loop-i.invariant.2,
+  c.keep_other-m.auto.held ∙ c.loop-i.invariant.3,
+  moving_no _ _ c.requires.0 c.loop-i.invariant.4 _ _ _ c.loop-i-test.true
+      (sym c.selected.ensures ∙ c.if-selected.false) c.keep_other-m.ensures.1,
+)
 
 pub slice_bounds-put_in-end : goal.slice_bounds-put_in-end
 slice_bounds-put_in-end c = sym c.loop-i.invariant.3
