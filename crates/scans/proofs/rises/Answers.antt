@@ -23,15 +23,19 @@ module _ (c : After-field-number) where
   row = number_of_row c.args.n c.args.size c.args.rows.now c.loop-i.i c.args.at c.args.w c.loop-i-test.true c.requires.1
 
 pub returns-then-number-low : goal.returns-then-number-low
-returns-then-number-low c = climb_low _ _ _ _ [] _ _ c.loop-i.invariant _ (inside (goal.at.returns-then-number-low c).After-field-number) (c.field-number.ensures ∙ row (goal.at.returns-then-number-low c).After-field-number) c.if-number-low.true
+returns-then-number-low c =
+    let t = (goal.at.returns-then-number-low c).After-field-number in
+    climb_low _ _ _ _ [] _ _ c.loop-i.invariant _ (inside t) (c.field-number.ensures ∙ row t) c.if-number-low.true
 
 pub returns-then-most-number : goal.returns-then-most-number
 returns-then-most-number c =
-    climb_high _ _ _ _ [] _ _ c.loop-i.invariant _ (inside (goal.at.returns-then-most-number c).After-field-number) (c.field-number.ensures ∙ row (goal.at.returns-then-most-number c).After-field-number) (omega (arith, c.if-number-low.false)) c.if-most-number.true
+    let t = (goal.at.returns-then-most-number c).After-field-number in
+    climb_high _ _ _ _ [] _ _ c.loop-i.invariant _ (inside t) (c.field-number.ensures ∙ row t) (omega (arith, c.if-number-low.false)) c.if-most-number.true
 
 pub loop-i-preserved : goal.loop-i-preserved
 loop-i-preserved c =
-    climb_more _ _ _ _ [] _ _ c.loop-i.invariant _ (inside (goal.at.loop-i-preserved c).After-field-number) (c.field-number.ensures ∙ row (goal.at.loop-i-preserved c).After-field-number) (omega (arith, c.if-number-low.false)) (omega (arith, c.if-most-number.false))
+    let t = (goal.at.loop-i-preserved c).After-field-number in
+    climb_more _ _ _ _ [] _ _ c.loop-i.invariant _ (inside t) (c.field-number.ensures ∙ row t) (omega (arith, c.if-number-low.false)) (omega (arith, c.if-most-number.false))
 
 pub returns : goal.returns
 returns c =
