@@ -9,17 +9,21 @@ use seplogic.Ra.Ura.{Ura}
 use mir.Syntax.{named, erased, w8, w16}
 use mir.Val.{Val, vint, WT, has_ty}
 use base.Logic.{SProp, ent, sep, emp, via, fst∗, id⊢, ex_e, snd∗}
-use base.Fml.{Lft, Share, GName, ftrue, flft}
+use base.Fml.{Fml, Lft, Share, GName, ftrue, flft, fsep, fbor}
+use types.Hole.{Holey}
+use types.SemTy.{Arr, Body}
+use denote.Memory.{mem as mem-of}
+use Rattle.std.proofs.raw_atomic.Walks.{proved}
 use prog.Memory.{Memory}
 use prog.Routine.{Routine}
-use prog.Wp.{Calls, Loops, WpFn, Tables}
+use prog.Wp.{Calls, Loops, WpFn}
 use types.Logic.{Logic, sem}
 use contract.Monad.{Fun, fact}
-use contract.Running.{tables, tables_of}
+use contract.Running.{tables}
 use types.Kit.{‵, raw, some, later, ◌⊛◌, ◌$◌, ◌∵◌, !, qed, by, move, keep, use1, use2, split, join, pick, rewrite, fsplit, fjoin, feq_l, suffices, frame, await, done}
 use types.Run.{look, init, forget, stop, hop, fld, from, load, addr, of_opd, and_then, no_more, assigns, land, returns, enter, alloc1, alloc0, params1, pass1, pass0, free1, free0}
 use types.Part.{agg, whole, sub, look_in}
-use sound.WpLaws.{FmC, fm_of, WpFn-mono}
+use sound.WpLaws.{FmC}
 use denote.RattleType.{owns}
 use denote.Laws.{Is, shows}
 use denote.Plain.{uint_Makes, uint_vals, uint_Tells}
@@ -29,12 +33,12 @@ use denote.Slice.{slice_val, MutSlice, Room, finally, mut_slice_vals, mut_slice_
 use denote.Steps.{only, owned, peeks, heard, nothing}
 use denote.Struct.Laws as LL
 use denote.Triple.Entry.{on_entry}
-use denote.Triple.Spec.{Meets, triple_of}
+use denote.Triple.Spec.{triple_of}
 use denote.Triple.Statement.{Contract, Triple}
 use denote.Triple.Call.{calls_at}
 use denote.Triple.Clauses.{ensured, lasts}
-use denote.Triple.Table.{entered, cited}
-use denote.Triple.Walked.{says, Stays, stay_none, gave_slice, walk_of, Goes-none, Goes-gave_slice, Walks, ends_at, walked, walk_Meets}
+use denote.Triple.Table.{framed}
+use denote.Triple.Walked.{says, Stays, stay_none, gave_slice, walk_of, Goes-none, Goes-gave_slice, ends_at}
 use denote.Exit.{yes}
 use denote.Signature.{plain}
 use Rattle.statements.specs.declared.Operation.{Operation}
@@ -51,19 +55,15 @@ use Rattle.statements.proofs.Operation.TheLaws as I'
 use Rattle.writer.specs.contracts.Added as R
 use Rattle.writer.proofs.Added.TheLaws as R'
 use Rattle.carried.specs.contracts.begin as begin
-use Rattle.carried.proofs.begin.Symbol as begin-def
 use Rattle.carried.proofs.begin.Symbol.{name as #carried·begin}
 use Rattle.carried.proofs.begin.Met as begin-thm
 use Rattle.carried.specs.contracts.operation as operation
-use Rattle.carried.proofs.operation.Symbol as operation-def
 use Rattle.carried.proofs.operation.Symbol.{name as #carried·operation}
 use Rattle.carried.proofs.operation.Met as operation-thm
 use Rattle.carried.specs.contracts.branch as branch
-use Rattle.carried.proofs.branch.Symbol as branch-def
 use Rattle.carried.proofs.branch.Symbol.{name as #carried·branch}
 use Rattle.carried.proofs.branch.Met as branch-thm
 use Rattle.carried.specs.contracts.told as told
-use Rattle.carried.proofs.told.Symbol as told-def
 use Rattle.carried.proofs.told.Symbol.{name as #carried·told}
 use Rattle.carried.proofs.told.Met as told-thm
 use Rattle.carried.specs.contracts.choice.Key.{name as #carried·choice}
@@ -192,10 +192,14 @@ module _ {M : Type 1} {𝓤 : Ura M} (𝓛 : Logic 𝓤) (mem : Memory → SProp
   abbrev Said : Added → List ℕ → Type 0
   Said r zs = written_is r zs ≡ onward add_operation (onward add_branch (onward add_operation (begin_on ys n k g₁) o₁) g₂) o₂
 
+  -- the borrow is given up: what its last list is, and that it is the lender's again at the end of κ
+  abbrev lent : ℕ → Fml
+  lent m = fbor κ (Body (Arr (Holey (mem-of u8)) m) b o γ)
+
   exits : (r : Added) (w : Val) (zs : List ℕ) → Said r zs → length zs ≡ length h₃.buffer.now
-      → ent 𝓤 (sep 𝓤 (sep 𝓤 (A.lft κ q) (sem 𝓛 ftrue)) (sep 𝓤 (sem 𝓛 (finally u8 γ zs)) (sem 𝓛 ((R.the_row).own_val r (w ∷ []))))) (Post w)
+      → ent 𝓤 (sep 𝓤 (sep 𝓤 (A.lft κ q) (sem 𝓛 ftrue)) (sep 𝓤 (sem 𝓛 (fsep (finally u8 γ zs) (lent (length ys)))) (sem 𝓛 ((R.the_row).own_val r (w ∷ []))))) (Post w)
   exits r w zs e l =
-      qed 𝓛 ((‵ (flft κ q) ⊛ ‵ ftrue) ∷ ‵ (finally u8 γ zs) ∷ ‵ ((R.the_row).own_val r (w ∷ [])) ∷ []) ∵
+      qed 𝓛 ((‵ (flft κ q) ⊛ ‵ ftrue) ∷ ‵ (fsep (finally u8 γ zs) (lent (length ys))) ∷ ‵ ((R.the_row).own_val r (w ∷ [])) ∷ []) ∵
       suffices ! _ (ends_at 𝓛 choice.ended stayed (choice.clauses 𝓛 mem run) (((κ, tt), (q, tt), tt, a, vals), tt) w r (zs, (tt, (tt, (tt, (tt, (tt, (tt, tt))))))) (l ∙ kept-length, (tt, (tt, (tt, (tt, (tt, (tt, tt)))))))) $ says ! e $ frame ! $
       nothing ! $ owned ! I.the_row (Is I.the_row) (LL.makes I.the_type I'.the_plain 𝓛) o₂ _ o₂-is $ fjoin ! $ owned ! I.the_row (Is I.the_row) (LL.makes I.the_type I'.the_plain 𝓛) g₂ _ g₂-is $ fjoin ! $
       owned ! I.the_row (Is I.the_row) (LL.makes I.the_type I'.the_plain 𝓛) o₁ _ o₁-is $ fjoin ! $ owned ! I.the_row (Is I.the_row) (LL.makes I.the_type I'.the_plain 𝓛) g₁ _ g₁-is $ fjoin ! $
@@ -251,8 +255,8 @@ module _ {M : Type 1} {𝓤 : Ura M} (𝓛 : Logic 𝓤) (mem : Memory → SProp
         calls_at ! fm (Tell 𝓛 mem run) known-told (to-tell w₃) (and_then ! (load ! (from ! (stop !)) (look ! 2 refl)) (no_more !)) (λ w.
         use1 𝓛 (later (some (λ (r : Added). ((‵ (flft κ q) ⊛ ‵ ftrue) ⊛ ‵ ((R.the_row).own_val r (w ∷ []))) ⊛ raw (ensured 𝓛 told.ended (told.clauses 𝓛 mem run) (κ, tt) (h₃, tt) tt r)))) (id⊢ 𝓤 _) $ await ! tt $ pick ! (λ r.
         split ! $ move ! (1 ∷ []) $ use1 𝓛 (some (λ (zs : (List ℕ × Unit {0}) × Unit {0}). ‵ (lasts told.ended (κ, tt) (h₃, tt) zs) ⊛ raw (fact 𝓤 (Said r zs.0.0)))) (id⊢ 𝓤 _) $ pick ! (λ zs.
-        split ! $ move ! (1 ∷ []) $ heard ! (Said r zs.0.0) (λ e. fsplit ! $ fsplit ! $ fsplit ! $ move ! (1 ∷ []) $ feq_l ! (λ l.
-        -- [the last list; true; …; the token and the result; …]
+        split ! $ move ! (1 ∷ []) $ heard ! (Said r zs.0.0) (λ e. fsplit ! $ fsplit ! $ fsplit ! $ fsplit ! $ move ! (1 ∷ []) $ feq_l ! (λ l. rewrite ! 1 (λ (m : ℕ). ‵ (lent m)) kept-length refl $ fjoin ! $
+        -- [the last list and the borrow; true; …; the token and the result; …]
         move ! (3 ∷ []) $ split ! $ move ! (1 ∷ []) $ peeks ! R.the_row (Is R.the_row) (shows 𝓛 R.the_row) r (w ∷ []) (λ is.
         land ! (from ! (stop !)) (init ! 40 refl ((LL.lawful R.the_type R'.the_laws 𝓛).typed r _ is).0) $
         returns ! (look ! 40 refl) $ forget ! 6 refl $ forget ! 8 refl $ forget ! 10 refl $ forget ! 12 refl $ forget ! 14 refl $ forget ! 16 refl $ forget ! 18 refl $ forget ! 20 refl $ forget ! 22 refl $
@@ -261,33 +265,16 @@ module _ {M : Type 1} {𝓤 : Ura M} (𝓛 : Logic 𝓤) (mem : Memory → SProp
         move ! (22 ∷ 23 ∷ []) $ free1 ! $ move ! (20 ∷ 21 ∷ []) $ free1 ! $ move ! (18 ∷ 19 ∷ []) $ free1 ! $ move ! (16 ∷ 17 ∷ []) $ free1 ! $ move ! (14 ∷ 15 ∷ []) $ free1 ! $ move ! (12 ∷ 13 ∷ []) $ free1 ! $ move ! (10 ∷ 11 ∷ []) $ free1 ! $ move ! (8 ∷ 9 ∷ []) $ free1 ! $ move ! (6 ∷ 7 ∷ []) $ free1 ! $ free0 ! $
         keep ! (1 ∷ 2 ∷ 0 ∷ []) $ by ! (exits r w zs.0.0 e l)))))))))))))))))))))))))))))))))))))))))
 
-module _ {M : Type 1} {𝓤 : Ura M} (𝓛 : Logic 𝓤) (mem : Memory → SProp 𝓤) (run : Routine → Fun 𝓤) where
-  open 𝓛 use {H}
-
-  choice-walks : (C : Calls 𝓤 H) (Λ : Loops 𝓤 H) → FmC 𝓤 H 𝓛.laws C → Triple 𝓤 (C #carried·begin) (Begin 𝓛 mem run) → Triple 𝓤 (C #carried·operation) (Operate 𝓛 mem run) → Triple 𝓤 (C #carried·branch) (Branch 𝓛 mem run) → Triple 𝓤 (C #carried·told) (Tell 𝓛 mem run)
-      → Walks 𝓛 choice.ended stayed (WpFn 𝓤 H C Λ code.function) (choice.clauses 𝓛 mem run)
-  choice-walks C Λ fm known-begin known-operation known-branch known-told = walked 𝓛 choice.ended stayed (choice.clauses 𝓛 mem run) (WpFn 𝓤 H C Λ code.function)
-      (λ κs. (mut_slice_vals, (uint_vals w8, (uint_vals w16, (LL.vals I.the_type I'.the_laws, (LL.vals I.the_type I'.the_laws, (LL.vals I.the_type I'.the_laws, (LL.vals I.the_type I'.the_laws, tt))))))))
-      (λ κs. (mut_slice_Tells (named 0) κs.0 u8, (uint_Tells w8, (uint_Tells w16, (LL.tells I.the_type I'.the_laws, (LL.tells I.the_type I'.the_laws, (LL.tells I.the_type I'.the_laws, (LL.tells I.the_type I'.the_laws, tt))))))))
-      (λ κs qs bounds a g are. via 𝓤 _ (fst∗ 𝓤 _ (emp 𝓤))
-      (walk 𝓛 mem run κs.0 qs.0 a.0.ref_ptr.0 a.0.ref_ptr.1 a.0.ghost_name a.0.now a.1.0 a.1.1.0 a.1.1.1.0 a.1.1.1.1.0 a.1.1.1.1.1.0 a.1.1.1.1.1.1.0
-      are.1.0.1 are.1.1.0.1 are.1.1.1.0 are.1.1.1.1.0 are.1.1.1.1.1.0 are.1.1.1.1.1.1.0 C Λ fm known-begin known-operation known-branch known-told are.0.0.1))
-
-choice-meets : {M : Type 1} {𝓤 : Ura M} (𝓛 : Logic 𝓤) → (mem : Memory → SProp 𝓤) (run : Routine → Fun 𝓤) (𝓣 : Tables 𝓤 𝓛.H)
-    → Triple 𝓤 (𝓣.C #carried·begin) (Begin 𝓛 mem run) → Triple 𝓤 (𝓣.C #carried·operation) (Operate 𝓛 mem run) → Triple 𝓤 (𝓣.C #carried·branch) (Branch 𝓛 mem run) → Triple 𝓤 (𝓣.C #carried·told) (Tell 𝓛 mem run)
-    → Meets 𝓛 choice.signature (WpFn 𝓤 𝓛.H 𝓣.C 𝓣.Λ code.function) (choice.spec 𝓛 mem run)
-choice-meets {𝓤 = 𝓤} 𝓛 mem run 𝓣 known-begin known-operation known-branch known-told =
-    walk_Meets 𝓛 choice.ended stayed
-    (Goes-gave_slice 𝓛 1 0 tt (plain (λ _. u8)), (Goes-none 𝓛 1 (λ _. u8) yes (λ κs x f. refl), (Goes-none 𝓛 1 (λ _. u16) yes (λ κs x f. refl), (Goes-none 𝓛 1 (λ _. I.the_row) yes (λ κs x f. refl), (Goes-none 𝓛 1 (λ _. I.the_row) yes (λ κs x f. refl), (Goes-none 𝓛 1 (λ _. I.the_row) yes (λ κs x f. refl), (Goes-none 𝓛 1 (λ _. I.the_row) yes (λ κs x f. refl), tt))))))) (choice.clauses 𝓛 mem run)
-    (WpFn 𝓤 𝓛.H 𝓣.C 𝓣.Λ code.function) (WpFn-mono 𝓤 𝓛.H 𝓛.laws 𝓣 code.function) (choice-walks 𝓛 mem run 𝓣.C 𝓣.Λ (fm_of 𝓤 𝓛.H 𝓛.laws 𝓣) known-begin known-operation known-branch known-told)
-
-pub choice-spec : {M : Type 1} → stated.statement M
-unfolding code.routine tables_of
-choice-spec 𝓤 𝓛 𝓜 𝓡 =
-    entered 𝓤 𝓛.H (triple_of 𝓛 choice.signature (choice.spec 𝓛 𝓜.mem 𝓡.run))
-    (tables 𝓤 𝓛.H 𝓜 𝓡 code.env).C (tables 𝓤 𝓛.H 𝓜 𝓡 code.env).Λ #carried·choice code.function (code.unfolded 𝓤 𝓛.H 𝓜 𝓡)
-    (choice-meets 𝓛 𝓜.mem 𝓡.run (tables_of 𝓤 𝓛.H 𝓜 (tables 𝓤 𝓛.H 𝓜 𝓡 code.env))
-    (cited 𝓤 𝓛.H (Begin 𝓛 𝓜.mem 𝓡.run) 𝓜 𝓡 code.env #carried·begin begin-def.routine code.calls-carried::begin (begin-thm.met 𝓤 𝓛 𝓜 𝓡))
-    (cited 𝓤 𝓛.H (Operate 𝓛 𝓜.mem 𝓡.run) 𝓜 𝓡 code.env #carried·operation operation-def.routine code.calls-carried::operation (operation-thm.met 𝓤 𝓛 𝓜 𝓡))
-    (cited 𝓤 𝓛.H (Branch 𝓛 𝓜.mem 𝓡.run) 𝓜 𝓡 code.env #carried·branch branch-def.routine code.calls-carried::branch (branch-thm.met 𝓤 𝓛 𝓜 𝓡))
-    (cited 𝓤 𝓛.H (Tell 𝓛 𝓜.mem 𝓡.run) 𝓜 𝓡 code.env #carried·told told-def.routine code.calls-carried::told (told-thm.met 𝓤 𝓛 𝓜 𝓡)))
+pub choice_spec : {M : Type 1} → stated.statement M
+choice_spec 𝓤 𝓛 𝓜 𝓡 wired =
+    let 𝓣 = tables 𝓤 𝓛.H 𝓜 𝓡 𝓡.env in
+    proved 𝓛 choice.ended stayed (choice.clauses 𝓛 𝓜.mem 𝓡.returns) 𝓜 𝓡
+    (Goes-gave_slice 𝓛 1 0 tt (plain (λ _. u8)), (Goes-none 𝓛 1 (λ _. u8) yes (λ κs x f. refl), (Goes-none 𝓛 1 (λ _. u16) yes (λ κs x f. refl), (Goes-none 𝓛 1 (λ _. I.the_row) yes (λ κs x f. refl), (Goes-none 𝓛 1 (λ _. I.the_row) yes (λ κs x f. refl), (Goes-none 𝓛 1 (λ _. I.the_row) yes (λ κs x f. refl), (Goes-none 𝓛 1 (λ _. I.the_row) yes (λ κs x f. refl), tt)))))))
+    #carried·choice code.function (code.unfolded 𝓤 𝓛.H 𝓜 𝓡 wired)
+    (λ κs. (mut_slice_vals, (uint_vals w8, (uint_vals w16, (LL.vals I.the_type I'.the_laws, (LL.vals I.the_type I'.the_laws, (LL.vals I.the_type I'.the_laws, (LL.vals I.the_type I'.the_laws, tt))))))))
+    (λ κs. (mut_slice_Tells (named 0) κs.0 u8, (uint_Tells w8, (uint_Tells w16, (LL.tells I.the_type I'.the_laws, (LL.tells I.the_type I'.the_laws, (LL.tells I.the_type I'.the_laws, (LL.tells I.the_type I'.the_laws, tt))))))))
+    (λ κs qs bounds a g are. via 𝓤 _ (fst∗ 𝓤 _ (emp 𝓤))
+    (walk 𝓛 𝓜.mem 𝓡.returns κs.0 qs.0 a.0.ref_ptr.0 a.0.ref_ptr.1 a.0.ghost_name a.0.now a.1.0 a.1.1.0 a.1.1.1.0 a.1.1.1.1.0 a.1.1.1.1.1.0 a.1.1.1.1.1.1.0
+    are.1.0.1 are.1.1.0.1 are.1.1.1.0 are.1.1.1.1.0 are.1.1.1.1.1.0 are.1.1.1.1.1.1.0 𝓣.C 𝓣.Λ (framed 𝓤 𝓛.H 𝓜 𝓣)
+    (begin-thm.met 𝓤 𝓛 𝓜 𝓡 (code.calls-carried::begin 𝓡.env wired)) (operation-thm.met 𝓤 𝓛 𝓜 𝓡 (code.calls-carried::operation 𝓡.env wired))
+    (branch-thm.met 𝓤 𝓛 𝓜 𝓡 (code.calls-carried::branch 𝓡.env wired)) (told-thm.met 𝓤 𝓛 𝓜 𝓡 (code.calls-carried::told 𝓡.env wired)) are.0.0.1))
