@@ -20,9 +20,10 @@ use prog.Wp.{Calls, Loops, WpFn}
 use types.Logic.{Logic, sem}
 use contract.Monad.{Fun, fact}
 use contract.Running.{tables}
-use types.Kit.{‵, raw, some, later, ◌⊛◌, ◌$◌, ◌∵◌, !, qed, by, move, keep, use1, use2, split, join, pick, rewrite, fsplit, fjoin, feq_l, suffices, frame, await, done}
-use types.Run.{look, init, forget, stop, hop, fld, from, load, addr, of_opd, and_then, no_more, assigns, land, returns, enter, alloc1, alloc0, params1, pass1, pass0, free1, free0}
-use types.Part.{agg, whole, sub, look_in}
+use types.Kit.{‵, raw, some, later, ◌⊛◌, ◌$◌, ◌∵◌, !, qed, by, move, keep, drop, use1, use2, split, join, pick, rewrite, fsplit, fjoin, feq_l, suffices, frame, await, done}
+use types.Run.{stop, hop, fld, from, addr, of_opd, and_then, no_more, returns, enter}
+use types.Part.{agg, whole, sub}
+use types.ByLocal.{alloc_all, pass_all, free_all, look_at, look_in_at, get, get_in, sets, lands_as}
 use sound.WpLaws.{FmC}
 use denote.RattleType.{owns}
 use denote.Laws.{Is, shows}
@@ -142,6 +143,10 @@ module _ {M : Type 1} {𝓤 : Ura M} (𝓛 : Logic 𝓤) (mem : Memory → SProp
       let fields = LL.owed (T.the_type α) (T'.the_laws α) h _ is in
       subst (λ (z : Val). Holds (has_ty (T'.mir erased) z) × WT z) (sym (ap only (LL.tells (T.the_type α) (T'.the_laws α) h _ is))) (tt, ((tt, (record { fits = fields.0.0.1.0 }, tt)), (record { fits = fields.1.0.1 }, (record { fits = fields.1.1.0.1 }, tt))))
 
+  -- the machine value of an operation has its MIR type
+  op : (v : Operation) → OperationIs v → Holds (has_ty I'.mir (mv v)) × WT (mv v)
+  op v is = ((LL.lawful I.the_type I'.the_laws 𝓛).typed v _ is).0
+
   abbrev Arg : Type 0
   Arg = MutBor (List ℕ) × (ℕ × (ℕ × (Operation × (Operation × (Operation × (Operation × Unit {0}))))))
 
@@ -210,60 +215,56 @@ module _ {M : Type 1} {𝓤 : Ura M} (𝓛 : Logic 𝓤) (mem : Memory → SProp
     walk : Room u8 (length ys) → ent 𝓤 (on_entry 𝓛 choice.signature (κ, tt) (q, tt) a vals) (WpFn 𝓤 H C Λ code.function (s ∷ vint w8 n ∷ vint w16 k ∷ mv g₁ ∷ mv o₁ ∷ mv g₂ ∷ mv o₂ ∷ []) Post)
     walk room =
         qed 𝓛 ((‵ (flft κ q) ⊛ ‵ ftrue) ∷ ‵ (owns (MutSlice (named 0) κ u8 ∷ u8 ∷ u16 ∷ I.the_row ∷ I.the_row ∷ I.the_row ∷ I.the_row ∷ []) a vals) ∷ []) ∵ enter ! C Λ code.function (s ∷ vint w8 n ∷ vint w16 k ∷ mv g₁ ∷ mv o₁ ∷ mv g₂ ∷ mv o₂ ∷ []) _ $
-        alloc1 ! (λ l₀. alloc1 ! (λ l₁. alloc1 ! (λ l₂. alloc1 ! (λ l₃. alloc1 ! (λ l₄. alloc1 ! (λ l₅. alloc1 ! (λ l₆. alloc1 ! (λ l₇. alloc1 ! (λ l₈.
-        alloc1 ! (λ l₉. alloc1 ! (λ l₁₀. alloc1 ! (λ l₁₁. alloc1 ! (λ l₁₂. alloc1 ! (λ l₁₃. alloc1 ! (λ l₁₄. alloc1 ! (λ l₁₅. alloc1 ! (λ l₁₆. alloc1 ! (λ l₁₇. alloc0 ! $ params1 ! $
-        pass1 ! (init ! 32 refl (tt, (tt, (record { fits = room.0 }, tt)))) $ pass1 ! (init ! 30 refl (tt, record { fits = n-fits })) $ pass1 ! (init ! 28 refl (tt, record { fits = k-fits })) $
-        pass1 ! (init ! 26 refl ((LL.lawful I.the_type I'.the_laws 𝓛).typed g₁ _ g₁-is).0) $ pass1 ! (init ! 24 refl ((LL.lawful I.the_type I'.the_laws 𝓛).typed o₁ _ o₁-is).0) $
-        pass1 ! (init ! 22 refl ((LL.lawful I.the_type I'.the_laws 𝓛).typed g₂ _ g₂-is).0) $ pass1 ! (init ! 20 refl ((LL.lawful I.the_type I'.the_laws 𝓛).typed o₂ _ o₂-is).0) $ pass0 ! $
-        -- [_17; …; _16; …; down to _1; …; room for _0; …; the token; what the parameters own]
-        assigns ! (addr ! (from ! (fld ! refl (hop ! (look_in ! 32 (sub ! 0 refl (whole !))) (stop !))))) (from ! (stop !)) (init ! 10 refl (tt, tt)) $
-        assigns ! (agg ! (and_then ! (load ! (from ! (stop !)) (look ! 10 refl)) (and_then ! (load ! (from ! (fld ! refl (stop !))) (look_in ! 32 (sub ! 1 refl (whole !)))) (no_more !)))) (from ! (stop !)) (init ! 8 refl (tt, (tt, (record { fits = room.0 }, tt)))) $
-        -- `begin`
-        move ! (37 ∷ []) $ fsplit ! $ move ! (38 ∷ 0 ∷ []) $ use2 𝓛 (raw ((Begin 𝓛 mem run).pre to-begin)) goes-begin $
-        calls_at ! fm (Begin 𝓛 mem run) known-begin to-begin (and_then ! (load ! (from ! (stop !)) (look ! 10 refl)) (and_then ! (load ! (from ! (stop !)) (look ! 32 refl)) (and_then ! (load ! (from ! (stop !)) (look ! 30 refl)) (and_then ! (load ! (from ! (stop !)) (look ! 28 refl)) (no_more !))))) (λ w₀.
+        alloc_all ! (λ l. pass_all ! refl (
+          (tt, (tt, (record { fits = room.0 }, tt))),
+          (
+            (tt, record { fits = n-fits }),
+            (
+              (tt, record { fits = k-fits }),
+              (op g₁ g₁-is, (op o₁ o₁-is, (op g₂ g₂-is, (op o₂ o₂-is, tt)))),
+            ),
+          ),
+        ) $
+        sets ! (addr ! (from ! (fld ! refl (hop ! (look_in_at ! 1 (sub ! 0 refl (whole !))) (stop !))))) refl (tt, tt) $
+        sets ! (agg ! (and_then ! (get ! refl) (and_then ! (get_in ! (fld ! refl (stop !)) (sub ! 1 refl (whole !))) (no_more !)))) refl (tt, (tt, (record { fits = room.0 }, tt))) $
+        -- [the token; the slice; the locals]
+        move ! (1 ∷ []) $ fsplit ! $ move ! (1 ∷ []) $ drop ! $ move ! (1 ∷ 0 ∷ []) $ use2 𝓛 (raw ((Begin 𝓛 mem run).pre to-begin)) goes-begin $
+        calls_at ! fm (Begin 𝓛 mem run) known-begin to-begin (and_then ! (get ! refl) (and_then ! (get ! refl) (and_then ! (get ! refl) (and_then ! (get ! refl) (no_more !))))) (λ w₀.
         use1 𝓛 (later (some (λ (r : Writer). ((‵ (flft κ q) ⊛ ‵ ftrue) ⊛ ‵ ((T.the_row α).own_val r (w₀ ∷ []))) ⊛ raw (ensured 𝓛 begin.ended (begin.clauses 𝓛 mem run) (κ, tt) (x, (n, (k, (g₁, tt)))) tt r)))) (id⊢ 𝓤 _) $ await ! tt $ pick ! (λ r₀.
         split ! $ move ! (1 ∷ []) $ use1 𝓛 (raw (fact 𝓤 (r₀ ≡ h₀))) (begin-of 𝓛 mem run κ x n k g₁ r₀) $ heard ! (r₀ ≡ h₀) (λ e₀.
         split ! $ rewrite ! 1 (λ (h : Writer). ‵ ((T.the_row α).own_val h (w₀ ∷ []))) e₀ refl $
-        move ! (1 ∷ []) $ peeks ! (T.the_row α) (Is (T.the_row α)) (shows 𝓛 (T.the_row α)) h₀ (w₀ ∷ []) (λ is₀. land ! (from ! (stop !)) (init ! 21 refl (typed h₀ w₀ is₀)) $
-        assigns ! (of_opd ! (load ! (from ! (stop !)) (look ! 21 refl))) (from ! (stop !)) (init ! 9 refl (typed h₀ w₀ is₀)) $
-        -- `operation`
+        move ! (1 ∷ []) $ peeks ! (T.the_row α) (Is (T.the_row α)) (shows 𝓛 (T.the_row α)) h₀ (w₀ ∷ []) (λ is₀.
+        lands_as ! refl refl (typed h₀ w₀ is₀) $ sets ! (of_opd ! (get ! refl)) refl (typed h₀ w₀ is₀) $
         move ! (1 ∷ 0 ∷ []) $ use2 𝓛 (raw ((Operate 𝓛 mem run).pre (to-operation h₀ o₁ w₀))) (goes-operation h₀ o₁ o₁-is w₀) $
-        calls_at ! fm (Operate 𝓛 mem run) known-operation (to-operation h₀ o₁ w₀) (and_then ! (load ! (from ! (stop !)) (look ! 8 refl)) (and_then ! (load ! (from ! (stop !)) (look ! 26 refl)) (no_more !))) (λ w₁.
+        calls_at ! fm (Operate 𝓛 mem run) known-operation (to-operation h₀ o₁ w₀) (and_then ! (get ! refl) (and_then ! (get ! refl) (no_more !))) (λ w₁.
         use1 𝓛 (later (some (λ (r : Writer). ((‵ (flft κ q) ⊛ ‵ ftrue) ⊛ ‵ ((T.the_row α).own_val r (w₁ ∷ []))) ⊛ raw (ensured 𝓛 operation.ended (operation.clauses 𝓛 mem run) (κ, tt) (h₀, (o₁, tt)) tt r)))) (id⊢ 𝓤 _) $ await ! tt $ pick ! (λ r₁.
         split ! $ move ! (1 ∷ []) $ use1 𝓛 (raw (fact 𝓤 (r₁ ≡ h₁))) (operation-of 𝓛 mem run κ h₀ o₁ r₁) $ heard ! (r₁ ≡ h₁) (λ e₁.
         split ! $ rewrite ! 1 (λ (h : Writer). ‵ ((T.the_row α).own_val h (w₁ ∷ []))) e₁ refl $
-        move ! (1 ∷ []) $ peeks ! (T.the_row α) (Is (T.the_row α)) (shows 𝓛 (T.the_row α)) h₁ (w₁ ∷ []) (λ is₁. land ! (from ! (stop !)) (init ! 19 refl (typed h₁ w₁ is₁)) $
-        assigns ! (of_opd ! (load ! (from ! (stop !)) (look ! 19 refl))) (from ! (stop !)) (init ! 7 refl (typed h₁ w₁ is₁)) $
-        -- `branch`
+        move ! (1 ∷ []) $ peeks ! (T.the_row α) (Is (T.the_row α)) (shows 𝓛 (T.the_row α)) h₁ (w₁ ∷ []) (λ is₁.
+        lands_as ! refl refl (typed h₁ w₁ is₁) $ sets ! (of_opd ! (get ! refl)) refl (typed h₁ w₁ is₁) $
         move ! (1 ∷ 0 ∷ []) $ use2 𝓛 (raw ((Branch 𝓛 mem run).pre (to-branch h₁ g₂ w₁))) (goes_branch h₁ g₂ g₂-is w₁) $
-        calls_at ! fm (Branch 𝓛 mem run) known-branch (to-branch h₁ g₂ w₁) (and_then ! (load ! (from ! (stop !)) (look ! 6 refl)) (and_then ! (load ! (from ! (stop !)) (look ! 24 refl)) (no_more !))) (λ w₂.
+        calls_at ! fm (Branch 𝓛 mem run) known-branch (to-branch h₁ g₂ w₁) (and_then ! (get ! refl) (and_then ! (get ! refl) (no_more !))) (λ w₂.
         use1 𝓛 (later (some (λ (r : Writer). ((‵ (flft κ q) ⊛ ‵ ftrue) ⊛ ‵ ((T.the_row α).own_val r (w₂ ∷ []))) ⊛ raw (ensured 𝓛 branch.ended (branch.clauses 𝓛 mem run) (κ, tt) (h₁, (g₂, tt)) tt r)))) (id⊢ 𝓤 _) $ await ! tt $ pick ! (λ r₂.
         split ! $ move ! (1 ∷ []) $ use1 𝓛 (raw (fact 𝓤 (r₂ ≡ h₂))) (branch-of 𝓛 mem run κ h₁ g₂ r₂) $ heard ! (r₂ ≡ h₂) (λ e₂.
         split ! $ rewrite ! 1 (λ (h : Writer). ‵ ((T.the_row α).own_val h (w₂ ∷ []))) e₂ refl $
-        move ! (1 ∷ []) $ peeks ! (T.the_row α) (Is (T.the_row α)) (shows 𝓛 (T.the_row α)) h₂ (w₂ ∷ []) (λ is₂. land ! (from ! (stop !)) (init ! 17 refl (typed h₂ w₂ is₂)) $
-        assigns ! (of_opd ! (load ! (from ! (stop !)) (look ! 17 refl))) (from ! (stop !)) (init ! 5 refl (typed h₂ w₂ is₂)) $
-        -- `operation`
+        move ! (1 ∷ []) $ peeks ! (T.the_row α) (Is (T.the_row α)) (shows 𝓛 (T.the_row α)) h₂ (w₂ ∷ []) (λ is₂.
+        lands_as ! refl refl (typed h₂ w₂ is₂) $ sets ! (of_opd ! (get ! refl)) refl (typed h₂ w₂ is₂) $
         move ! (1 ∷ 0 ∷ []) $ use2 𝓛 (raw ((Operate 𝓛 mem run).pre (to-operation h₂ o₂ w₂))) (goes-operation h₂ o₂ o₂-is w₂) $
-        calls_at ! fm (Operate 𝓛 mem run) known-operation (to-operation h₂ o₂ w₂) (and_then ! (load ! (from ! (stop !)) (look ! 4 refl)) (and_then ! (load ! (from ! (stop !)) (look ! 22 refl)) (no_more !))) (λ w₃.
+        calls_at ! fm (Operate 𝓛 mem run) known-operation (to-operation h₂ o₂ w₂) (and_then ! (get ! refl) (and_then ! (get ! refl) (no_more !))) (λ w₃.
         use1 𝓛 (later (some (λ (r : Writer). ((‵ (flft κ q) ⊛ ‵ ftrue) ⊛ ‵ ((T.the_row α).own_val r (w₃ ∷ []))) ⊛ raw (ensured 𝓛 operation.ended (operation.clauses 𝓛 mem run) (κ, tt) (h₂, (o₂, tt)) tt r)))) (id⊢ 𝓤 _) $ await ! tt $ pick ! (λ r₃.
         split ! $ move ! (1 ∷ []) $ use1 𝓛 (raw (fact 𝓤 (r₃ ≡ h₃))) (operation-of 𝓛 mem run κ h₂ o₂ r₃) $ heard ! (r₃ ≡ h₃) (λ e₃.
         split ! $ rewrite ! 1 (λ (h : Writer). ‵ ((T.the_row α).own_val h (w₃ ∷ []))) e₃ refl $
-        move ! (1 ∷ []) $ peeks ! (T.the_row α) (Is (T.the_row α)) (shows 𝓛 (T.the_row α)) h₃ (w₃ ∷ []) (λ is₃. land ! (from ! (stop !)) (init ! 15 refl (typed h₃ w₃ is₃)) $
-        assigns ! (of_opd ! (load ! (from ! (stop !)) (look ! 15 refl))) (from ! (stop !)) (init ! 3 refl (typed h₃ w₃ is₃)) $
-        -- `told`
+        move ! (1 ∷ []) $ peeks ! (T.the_row α) (Is (T.the_row α)) (shows 𝓛 (T.the_row α)) h₃ (w₃ ∷ []) (λ is₃.
+        lands_as ! refl refl (typed h₃ w₃ is₃) $ sets ! (of_opd ! (get ! refl)) refl (typed h₃ w₃ is₃) $
         move ! (1 ∷ 0 ∷ []) $ use2 𝓛 (raw ((Tell 𝓛 mem run).pre (to-tell w₃))) (goes-tell w₃) $
-        calls_at ! fm (Tell 𝓛 mem run) known-told (to-tell w₃) (and_then ! (load ! (from ! (stop !)) (look ! 2 refl)) (no_more !)) (λ w.
+        calls_at ! fm (Tell 𝓛 mem run) known-told (to-tell w₃) (and_then ! (get ! refl) (no_more !)) (λ w.
         use1 𝓛 (later (some (λ (r : Added). ((‵ (flft κ q) ⊛ ‵ ftrue) ⊛ ‵ ((R.the_row).own_val r (w ∷ []))) ⊛ raw (ensured 𝓛 told.ended (told.clauses 𝓛 mem run) (κ, tt) (h₃, tt) tt r)))) (id⊢ 𝓤 _) $ await ! tt $ pick ! (λ r.
         split ! $ move ! (1 ∷ []) $ use1 𝓛 (some (λ (zs : (List ℕ × Unit {0}) × Unit {0}). ‵ (lasts told.ended (κ, tt) (h₃, tt) zs) ⊛ raw (fact 𝓤 (Said r zs.0.0)))) (id⊢ 𝓤 _) $ pick ! (λ zs.
         split ! $ move ! (1 ∷ []) $ heard ! (Said r zs.0.0) (λ e. fsplit ! $ fsplit ! $ fsplit ! $ fsplit ! $ move ! (1 ∷ []) $ feq_l ! (λ l. rewrite ! 1 (λ (m : ℕ). ‵ (lent m)) kept-length refl $ fjoin ! $
-        -- [the last list and the borrow; true; …; the token and the result; …]
+        -- [the last list and the borrow; true; true; the token and the result; the locals]
         move ! (3 ∷ []) $ split ! $ move ! (1 ∷ []) $ peeks ! R.the_row (Is R.the_row) (shows 𝓛 R.the_row) r (w ∷ []) (λ is.
-        land ! (from ! (stop !)) (init ! 40 refl ((LL.lawful R.the_type R'.the_laws 𝓛).typed r _ is).0) $
-        returns ! (look ! 40 refl) $ forget ! 6 refl $ forget ! 8 refl $ forget ! 10 refl $ forget ! 12 refl $ forget ! 14 refl $ forget ! 16 refl $ forget ! 18 refl $ forget ! 20 refl $ forget ! 22 refl $
-        forget ! 24 refl $ forget ! 26 refl $ forget ! 28 refl $ forget ! 30 refl $ forget ! 32 refl $ forget ! 34 refl $ forget ! 36 refl $ forget ! 38 refl $ forget ! 40 refl $
-        move ! (40 ∷ 41 ∷ []) $ free1 ! $ move ! (38 ∷ 39 ∷ []) $ free1 ! $ move ! (36 ∷ 37 ∷ []) $ free1 ! $ move ! (34 ∷ 35 ∷ []) $ free1 ! $ move ! (32 ∷ 33 ∷ []) $ free1 ! $ move ! (30 ∷ 31 ∷ []) $ free1 ! $ move ! (28 ∷ 29 ∷ []) $ free1 ! $ move ! (26 ∷ 27 ∷ []) $ free1 ! $ move ! (24 ∷ 25 ∷ []) $ free1 ! $
-        move ! (22 ∷ 23 ∷ []) $ free1 ! $ move ! (20 ∷ 21 ∷ []) $ free1 ! $ move ! (18 ∷ 19 ∷ []) $ free1 ! $ move ! (16 ∷ 17 ∷ []) $ free1 ! $ move ! (14 ∷ 15 ∷ []) $ free1 ! $ move ! (12 ∷ 13 ∷ []) $ free1 ! $ move ! (10 ∷ 11 ∷ []) $ free1 ! $ move ! (8 ∷ 9 ∷ []) $ free1 ! $ move ! (6 ∷ 7 ∷ []) $ free1 ! $ free0 ! $
-        keep ! (1 ∷ 2 ∷ 0 ∷ []) $ by ! (exits r w zs.0.0 e l)))))))))))))))))))))))))))))))))))))))))
+        lands_as ! refl refl ((LL.lawful R.the_type R'.the_laws 𝓛).typed r _ is).0 $
+        returns ! (look_at ! 0 refl) $ free_all ! refl $ keep ! (1 ∷ 2 ∷ 0 ∷ []) $ by ! (exits r w zs.0.0 e l))))))))))))))))))))))))
 
 pub choice_spec : {M : Type 1} → stated.statement M
 choice_spec 𝓤 𝓛 𝓜 𝓡 wired =
