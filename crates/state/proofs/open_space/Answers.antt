@@ -22,8 +22,7 @@ pub overflow_add-number : goal.overflow_add-number
 overflow_add-number c = omega (arith, (room (decode c.args.state.now) c.requires.1).number, c.next-number.ensures.0)
 
 pub returns : goal.returns
-returns c =
-    (
-      c.next-number.ensures.0,
-      opens c.args.process c.args.owned c.requires.0 c.requires.1 (search rules) c.space_count-n.ensures.0 c.next-number.ensures.0 c.open.ensures c.set_space_count.ensures c.set_next.ensures,
-    )
+returns c = (
+  c.next-number.ensures.0,
+  opens c.args.process c.args.owned c.requires.0 c.requires.1 (search rules) c.space_count-n.ensures.0 c.next-number.ensures.0 c.open.ensures c.set_space_count.ensures c.set_next.ensures,
+)
