@@ -14,7 +14,10 @@ ghost use Rattle.text.specs.Written.{growth};
 ghost use Rattle.io.specs.Counts.{IsPrefixLen};
 ghost use Rattle.cabinet.specs.Printed.{most_turns, size_said, text_of, printed, answered, Answers};
 
-use libc::{STDIN_FILENO, STDOUT_FILENO};
+// The file descriptors of the standard input and output.
+const STDIN: i32 = 0;
+
+const STDOUT: i32 = 1;
 
 // The longest record: its head and the longest body.
 const RECORD: usize = words::BODY_AT + words::MOST_LENGTH;
@@ -44,12 +47,12 @@ fn read_record(record: &mut [u8]) -> usize
     ensures prefix_len { IsPrefixLen result «record».new }
     ensures upper_bound { result ≤ size_said «record».new }
 {
-    let head = io::read_full(STDIN_FILENO, &mut record[..words::BODY_AT]);
+    let head = io::read_full(STDIN, &mut record[..words::BODY_AT]);
     if head < words::BODY_AT {
         return head;
     }
     let end = words::BODY_AT + words::word2(record, words::LENGTH_AT) as usize;
-    words::BODY_AT + io::read_full(STDIN_FILENO, &mut record[words::BODY_AT..end])
+    words::BODY_AT + io::read_full(STDIN, &mut record[words::BODY_AT..end])
 }
 
 // The text of what the call for a record returned: "Refusals 3 to 5 print `refused n`", else the lines of its replies. 1 and 2 are
@@ -95,7 +98,7 @@ fn print(text: &[u8], record: &[u8], state: &[u8], more: bool, turns: u64) -> Tu
         size: record.len(),
         end: text.len(),
         more,
-        written: io::write_all(STDOUT_FILENO, text),
+        written: io::write_all(STDOUT, text),
     }
 }
 

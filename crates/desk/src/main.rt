@@ -1,9 +1,11 @@
 // The program `desk`: it writes statements by the writer, runs them through a replica and prints "a line per reply".
 #![tactic(auto)]
 
-use libc::STDOUT_FILENO;
 use statements::{Field, OUT, Operation, TRUE};
 use writer::Added;
+
+// The file descriptor of the standard output.
+const STDOUT: i32 = 1;
 
 // The longest record of a statement: its head, and a body of the greatest length.
 const RECORD: usize = words::BODY_AT + words::MOST_BODY;
@@ -108,7 +110,7 @@ fn take(state: &mut [u8], record: &[u8], n: usize) {
     let mut text = [0u8; lines::ROOM];
     let returned = replica::replica_take(state, &record[..n], &mut reply);
     let end = lines::lines(&reply, returned as usize, &mut text);
-    io::write_all(STDOUT_FILENO, &text[..end]);
+    io::write_all(STDOUT, &text[..end]);
 }
 
 // "a two-byte ASCII mark, body length (2 bytes), position (4 bytes), body": a record of the first n bytes is handed in.
@@ -131,7 +133,7 @@ fn send(state: &mut [u8], mark: &[u8; words::MARK_WIDTH], position: u32, body: &
 fn print_refused(answer: u8) {
     let mut text = [0u8; lines::ROOM];
     let end = lines::refused(words::wide(answer), &mut text);
-    io::write_all(STDOUT_FILENO, &text[..end]);
+    io::write_all(STDOUT, &text[..end]);
 }
 
 // Sends the body that the writer left, unless it refused an addition: taken apart by the reader of bodies and written again.

@@ -1,0 +1,13 @@
+-- `cabinet::take_all` meets its contract. Assumes nothing.
+use Rattle.std.proofs.Common.{sym, ◌∙◌, true≢false}
+use Rattle.cabinet.specs.PrintedLaws.{fresh_begins}
+use Rattle.cabinet.proofs.take_all.Goals as goal
+
+pub loop-turn-init : goal.loop-turn-init
+loop-turn-init c =
+    let begun = c.requires.turns_value in
+    record {
+      state = fresh_begins c.args.state.now c.requires.state_value;
+      ended = λ e. absurd (true≢false (sym begun.1 ∙ e));
+      begun = λ z. (begun.1, begun.2);
+    }
