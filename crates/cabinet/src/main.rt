@@ -44,8 +44,8 @@ struct Turn {
 // has ended before. A read that fails is taken for the end, as in `io`. It reads no byte past the record.
 fn read_record(record: &mut [u8]) -> usize
     requires { body_at + most_length ≤ length «record».old }
-    ensures prefix_len { IsPrefixLen result «record».new }
-    ensures upper_bound { result ≤ size_said «record».new }
+    ensures in_bounds { IsPrefixLen result «record».new }
+    ensures within_record { result ≤ size_said «record».new }
 {
     let head = io::read_full(STDIN, &mut record[..words::BODY_AT]);
     if head < words::BODY_AT {
@@ -58,8 +58,8 @@ fn read_record(record: &mut [u8]) -> usize
 // The text of what the call for a record returned: "Refusals 3 to 5 print `refused n`", else the lines of its replies. 1 and 2 are
 // refusals too, which do not come up here: the buffer is a state, and the replies have room.
 fn put_answer(text: &mut [u8], returned: u64, reply: &[u8]) -> usize
-    ensures prefix_len { IsPrefixLen result text.new }
-    ensures text_after { (l : Lent) → T (are_bytes l.input) → returned ≡ (take_call l).returned → reply.now ≡ (take_call l).reply → growth * reply_size ≤ length text.old → take result text.new ≡ text_of l }
+    ensures in_bounds { IsPrefixLen result text.new }
+    ensures text_is { (l : Lent) → T (are_bytes l.input) → returned ≡ (take_call l).returned → reply.now ≡ (take_call l).reply → growth * reply_size ≤ length text.old → take result text.new ≡ text_of l }
 {
     match returned {
         1..=5 => lines::refused(returned as u32, text),
@@ -70,8 +70,8 @@ fn put_answer(text: &mut [u8], returned: u64, reply: &[u8]) -> usize
 // Answers the bytes that were read as a record: none where the input has ended. "3, also for a cut last record, ends it".
 fn answer(state: &mut [u8], record: &[u8], reply: &mut [u8], text: &mut [u8]) -> Response
     requires { growth * reply_size ≤ length text.old }
-    ensures prefix_len { IsPrefixLen result.end text.new }
-    ensures more_after { printed state.new (take result.end text.new) result.more ≡ answered (lent state.old «record».now reply.old) }
+    ensures in_bounds { IsPrefixLen result.end text.new }
+    ensures is_answered { printed state.new (take result.end text.new) result.more ≡ answered (lent state.old «record».now reply.old) }
 {
     if record.len() == 0 {
         return Response {
@@ -90,8 +90,8 @@ fn answer(state: &mut [u8], record: &[u8], reply: &mut [u8], text: &mut [u8]) ->
 // Prints the text that answers these bytes and leaves this state, and gives the turn.
 fn print(text: &[u8], record: &[u8], state: &[u8], more: bool, turns: u64) -> Turn
     requires { Answers «record».now state.now text.now more }
-    ensures turns_value { (result.turns ≡ turns) × (result.more ≡ more) }
-    ensures size_value { (result.size ≡ length «record».now) × (result.end ≡ length text.now) }
+    ensures turn { (result.turns ≡ turns) × (result.more ≡ more) }
+    ensures sizes { (result.size ≡ length «record».now) × (result.end ≡ length text.now) }
 {
     Turn {
         turns,
@@ -110,14 +110,14 @@ fn take_one(
     reply: &mut [u8],
     text: &mut [u8],
 ) -> Turn
-    requires turns_lt_most_turns { (before.turns < most_turns) × (before.more ≡ true) × (before.written ≡ true) }
-    requires t { T (is_state state.old) }
-    requires most_length_in_bounds { (body_at + most_length ≤ length «record».old) × (reply_size ≤ length reply.old) × (growth * reply_size ≤ length text.old) }
-    ensures turns_value { result.turns ≡ before.turns + 1 }
-    ensures size_bound { result.size ≤ size_said «record».new }
-    ensures more_after { printed state.new (take result.end text.new) result.more ≡ answered (lent state.old (take result.size «record».new) reply.old) }
-    ensures t_2 { T (is_state state.new) }
-    ensures more_value { result.more ≡ is_some (record_of (take result.size «record».new)) }
+    requires goes_on { (before.turns < most_turns) × (before.more ≡ true) × (before.written ≡ true) }
+    requires from_state { T (is_state state.old) }
+    requires room { (body_at + most_length ≤ length «record».old) × (reply_size ≤ length reply.old) × (growth * reply_size ≤ length text.old) }
+    ensures one_turn { result.turns ≡ before.turns + 1 }
+    ensures within_record { result.size ≤ size_said «record».new }
+    ensures is_answered { printed state.new (take result.end text.new) result.more ≡ answered (lent state.old (take result.size «record».new) reply.old) }
+    ensures to_state { T (is_state state.new) }
+    ensures while_records { result.more ≡ is_some (record_of (take result.size «record».new)) }
 {
     let size = read_record(record);
     let response = answer(state, &record[..size], reply, text);
@@ -140,12 +140,12 @@ fn take_all(
     reply: &mut [u8],
     text: &mut [u8],
 ) -> Turn
-    requires turns_value { (first.turns ≡ 0) × (first.more ≡ true) × (first.written ≡ true) }
-    requires state_value { state.old ≡ encode fresh }
-    requires most_length_in_bounds { (body_at + most_length ≤ length «record».old) × (reply_size ≤ length reply.old) × (growth * reply_size ≤ length text.old) }
-    ensures turns_nonzero { result.turns ≢ 0 }
-    ensures t { T (is_state state.new) }
-    ensures record_after { result.turns ≢ most_turns → result.written ≡ true → is_some (record_of (take result.size «record».new)) ≡ false }
+    requires first_turn { (first.turns ≡ 0) × (first.more ≡ true) × (first.written ≡ true) }
+    requires fresh_state { state.old ≡ encode fresh }
+    requires room { (body_at + most_length ≤ length «record».old) × (reply_size ≤ length reply.old) × (growth * reply_size ≤ length text.old) }
+    ensures some_turn { result.turns ≢ 0 }
+    ensures to_state { T (is_state state.new) }
+    ensures until_no_record { result.turns ≢ most_turns → result.written ≡ true → is_some (record_of (take result.size «record».new)) ≡ false }
 {
     let mut turn = first;
     while turn.turns < u64::MAX && turn.more && turn.written {

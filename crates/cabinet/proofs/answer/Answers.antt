@@ -6,13 +6,13 @@ use Rattle.calls.specs.Calls.{lent}
 use Rattle.cabinet.specs.PrintedLaws.{answered_none, answered_call}
 use Rattle.cabinet.proofs.answer.Goals as goal
 
-pub returns-then-record-eq0-clause-more_after : goal.returns-then-record-eq0-clause-more_after
-returns-then-record-eq0-clause-more_after c = answered_none (lent c.args.state.now c.args.«record».now c.args.reply.now) c.if-record-eq0.true
+pub returns-then-record-eq0-clause-is_answered : goal.returns-then-record-eq0-clause-is_answered
+returns-then-record-eq0-clause-is_answered c = answered_none (lent c.args.state.now c.args.«record».now c.args.reply.now) c.if-record-eq0.true
 
-pub returns-clause-more_after : goal.returns-clause-more_after
-returns-clause-more_after c =
+pub returns-clause-is_answered : goal.returns-clause-is_answered
+returns-clause-is_answered c =
     let r = c.replica_take-returned in
     let p = c.put_answer-end in
     let l = lent c.args.state.now c.args.«record».now c.args.reply.now in
     let bytes : T (are_bytes c.args.«record».now) = bytes_of_lem c.args.«record».now (λ i. (c.type_inv.«record» i).fits) in
-    answered_call l r.result r.new.state r.new.reply (take p.result p.new.text) c.if-record-eq0.false r.ensures (λ returned reply. p.ensures.text_after l bytes returned reply c.requires)
+    answered_call l r.result r.new.state r.new.reply (take p.result p.new.text) c.if-record-eq0.false r.ensures (λ returned reply. p.ensures.text_is l bytes returned reply c.requires)

@@ -5,8 +5,8 @@ use Rattle.basis.specs.Sizes.{body_at}
 use Rattle.cabinet.specs.ReadLaws.{within_body}
 use Rattle.cabinet.proofs.read_record.Goals as goal
 
-pub returns-clause-upper_bound : goal.returns-clause-upper_bound
-returns-clause-upper_bound c =
+pub returns-clause-within_record : goal.returns-clause-within_record
+returns-clause-within_record c =
     let now = c.read_full-head.new.buf ++ drop body_at c.args.«record».now in
     let long : body_at ≤ length now = simp (length-append, length-drop) (omega arith) in
     within_body c.word2.result c.read_full.result now c.read_full.new.buf long c.word2.ensures c.read_full.ensures.0 c.read_full.auto.buf

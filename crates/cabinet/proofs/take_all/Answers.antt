@@ -5,9 +5,9 @@ use Rattle.cabinet.proofs.take_all.Goals as goal
 
 pub loop-turn-init : goal.loop-turn-init
 loop-turn-init c =
-    let begun = c.requires.turns_value in
+    let begun = c.requires.first_turn in
     record {
-      state = fresh_begins c.args.state.now c.requires.state_value;
+      state = fresh_begins c.args.state.now c.requires.fresh_state;
       ended = λ e. absurd (true≢false (sym begun.1 ∙ e));
       begun = λ z. (begun.1, begun.2);
     }

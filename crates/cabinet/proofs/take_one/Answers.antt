@@ -11,27 +11,27 @@ pub print-requires : goal.print-requires
 print-requires c = record {
   before = c.args.state.now;
   reply = c.args.reply.now;
-  is_state_lem = c.requires.t;
-  room = c.requires.most_length_in_bounds.1;
-  is = c.answer-response.ensures.more_after;
+  is_state_lem = c.requires.from_state;
+  room = c.requires.room.1;
+  is = c.answer-response.ensures.is_answered;
 }
 
-pub returns-clause-t_2 : goal.returns-clause-t_2
-returns-clause-t_2 c =
+pub returns-clause-to_state : goal.returns-clause-to_state
+returns-clause-to_state c =
     let buffer = c.read_record-size.new.«record» in
     let size = c.read_record-size.result in
     let a = c.answer-response in
     let fits : (i : ℕ) → Fits w8 (get_or buffer i 0) = search rules in
     let bytes : T (are_bytes buffer) = bytes_of_lem buffer (λ i. (fits i).fits) in
-    (turn_leaves (lent c.args.state.now (take size buffer) c.args.reply.now) a.new.state (take a.result.end a.new.text) a.result.more c.requires.t c.requires.most_length_in_bounds.1 (bytes_take size buffer bytes) a.ensures.more_after).0
+    (turn_leaves (lent c.args.state.now (take size buffer) c.args.reply.now) a.new.state (take a.result.end a.new.text) a.result.more c.requires.from_state c.requires.room.1 (bytes_take size buffer bytes) a.ensures.is_answered).0
 
-pub returns-clause-more_value : goal.returns-clause-more_value
-returns-clause-more_value c =
+pub returns-clause-while_records : goal.returns-clause-while_records
+returns-clause-while_records c =
     let buffer = c.read_record-size.new.«record» in
     let size = c.read_record-size.result in
     let a = c.answer-response in
     let fits : (i : ℕ) → Fits w8 (get_or buffer i 0) = search rules in
     let bytes : T (are_bytes buffer) = bytes_of_lem buffer (λ i. (fits i).fits) in
-    let left = turn_leaves (lent c.args.state.now (take size buffer) c.args.reply.now) a.new.state (take a.result.end a.new.text) a.result.more c.requires.t c.requires.most_length_in_bounds.1 (bytes_take size buffer bytes) a.ensures.more_after in
-    let size_is : c.print.result.size ≡ size = c.print.ensures.size_value.0 ∙ sym c.read_record-size.ensures.prefix_len.1 in
-    rw (size_is, c.print.ensures.turns_value.1) left.1
+    let left = turn_leaves (lent c.args.state.now (take size buffer) c.args.reply.now) a.new.state (take a.result.end a.new.text) a.result.more c.requires.from_state c.requires.room.1 (bytes_take size buffer bytes) a.ensures.is_answered in
+    let size_is : c.print.result.size ≡ size = c.print.ensures.sizes.0 ∙ sym c.read_record-size.ensures.in_bounds.1 in
+    rw (size_is, c.print.ensures.turn.1) left.1
