@@ -280,7 +280,7 @@ unfolding after replace stop
 stopped_now w one m left = tt
 stopped_now w two m left = tt
 
--- after any cut the replica can restart by the fresh_state call, on a buffer of 25,312 bytes
+-- after any cut the replica can restart by the fresh-state call, on a buffer of 25,312 bytes
 pub fresh_restart_befalls : (w : World) (c : Side) (m : Moment) (left buffer : Bytes) → length buffer ≡ state_size → Can (after_cut w c m left) (restart_fresh c buffer)
 fresh_restart_befalls w c m left buffer e = (stopped_now w c m left, e)
 

@@ -1,4 +1,4 @@
--- The fresh_state call and the call for a record: what each returns and leaves in every buffer, as one definition of the bytes lent. Assumes nothing.
+-- The fresh-state call and the call for a record: what each returns and leaves in every buffer, as one definition of the bytes lent. Assumes nothing.
 use Rattle.std.specs.Prelude.{ℕ, suc, Bool, not, cond, List, [], ◌∷◌, ◌++◌, length, drop, leb, ltb, eqb}
 use Rattle.std.proofs.Math.Option.{Option, none, some}
 use Rattle.basis.specs.Choice.{maybe, is_some, first_number}
@@ -12,7 +12,7 @@ use Rattle.layout.specs.IsState.{is_state}
 abbrev pub Bytes : Type 0
 Bytes = List ℕ
 
--- ---- the fresh_state call
+-- ---- the fresh-state call
 
 -- the number returned and the state buffer at exit
 pub record FreshAnswer : Type 0 where
@@ -22,7 +22,7 @@ pub record FreshAnswer : Type 0 where
 abbrev pub fresh_answer : (returned : ℕ) → (state : Bytes) → FreshAnswer
 fresh_answer n state = record { returned = n; state = state }
 
--- "The fresh_state call gives 1 for length, else 0"
+-- "The fresh-state call gives 1 for length, else 0"
 unfoldable pub fresh_call : (state : Bytes) → FreshAnswer
 fresh_call state = cond (eqb (length state) state_size) (fresh_answer 0 (encode fresh)) (fresh_answer 1 state)
 

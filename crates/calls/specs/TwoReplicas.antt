@@ -37,7 +37,7 @@ pub data Event : Type 0 where
   call : Side → Lent → Event
   -- a cut: "It leaves any bytes in that cabinet's buffers"
   cut : Side → Moment → (left : Bytes) → Event
-  -- a completed restart by the fresh_state call, on a buffer with any bytes
+  -- a completed restart by the fresh-state call, on a buffer with any bytes
   restart_fresh : Side → (buffer : Bytes) → Event
   -- a completed restart by a whole copy
   restart_copy : Side → Held → Event
@@ -84,7 +84,7 @@ abbrev pub IsStopped : Condition → Type 0
 IsStopped (running h) = ⊥
 IsStopped (stopped b) = Unit {0}
 
--- the fresh_state call works on any bytes of the right length; "A whole copy is of a state that the other held between calls, its latest or an earlier one, never of one in flight or cut"
+-- the fresh-state call works on any bytes of the right length; "A whole copy is of a state that the other held between calls, its latest or an earlier one, never of one in flight or cut"
 abbrev pub Can : World → Event → Type 0
 Can w (call c l) = CanCall (w c).condition l
 Can w (cut c m left) = Unit {0}
@@ -159,7 +159,7 @@ pub record OfRun (xs : List Bytes) (h : Held) : Type 0 where
   pub bytes : h.bytes ≡ encode run
   pub quiet : Quiet run
 
--- ---- for any two calls: the fresh_state call and the call for a record
+-- ---- for any two calls: the fresh-state call and the call for a record
 
 module _ (freshState : Bytes → FreshAnswer) (takeRecord : Lent → Answer) where
   -- ---- what an event does, with these calls
@@ -187,7 +187,7 @@ module _ (freshState : Bytes → FreshAnswer) (takeRecord : Lent → Answer) whe
   end w [] = w
   end w (e ∷ es) = end (after w e) es
 
-  -- "Empty, at first or at a restart, is the fresh state as the fresh_state call leaves it"
+  -- "Empty, at first or at a restart, is the fresh state as the fresh-state call leaves it"
   unfoldable pub begin : (buffers : Side → Bytes) → World
   begin buffers c = holding (record { position = 0; bytes = (freshState (buffers c)).state }) (record { condition = stopped (buffers c); history = [] })
 

@@ -24,7 +24,7 @@ replies_of s (x ∷ xs) = replies_bytes (step_bytes s x).replies ∷ replies_of 
 unfoldable pub rows : ℕ → List ℕ → List ℕ
 rows n row = flat_map (λ (b : List ℕ). b) (replicate n row)
 
--- the fresh_state call in a buffer of any bytes of the right length, and in a shorter one
+-- the fresh-state call in a buffer of any bytes of the right length, and in a shorter one
 pub fresh_bytes : fresh_call (replicate 25312 165) ≡ record { returned = 0; state = (84 ∷ 83 ∷ (zeros 10 ++ (1 ∷ 1 ∷ zeros 25298))) }
 unfolding computes
 fresh_bytes = refl

@@ -1,4 +1,4 @@
--- The fresh_state call. Assumes nothing.
+-- The fresh-state call. Assumes nothing.
 use Rattle.std.specs.Prelude.{◌≡◌, refl, ◌≢◌, ℕ, ◌+◌, ◌-◌, length}
 use Rattle.std.proofs.Common.{sym, ap, ◌∙◌, arith, ne_eqb, eq-eqb}
 use mathlib.Core.List.{List, [], ◌++◌, flat_map}

@@ -1,10 +1,10 @@
-// The fresh_state call.
+// The fresh-state call.
 #![tactic(auto)]
 
 ghost use Rattle.std.specs.Prelude.{◌≡◌};
 ghost use Rattle.calls.specs.Calls.{fresh_answer, fresh_call};
 
-// "The fresh_state call gives 1 for length, else 0". "Fresh: position 0, no host up, next number 1, space 0 only".
+// "The fresh-state call gives 1 for length, else 0". "Fresh: position 0, no host up, next number 1, space 0 only".
 pub fn fresh(state: &mut [u8]) -> u64
     ensures { fresh_answer result state.new ≡ fresh_call state.old }
 {

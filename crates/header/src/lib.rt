@@ -1,4 +1,4 @@
-// The header of a state, row by row: "`TS`, last position taken (4), hosts_up mask (2, bit h for host h), monitors, next space number", of
+// The header of a state, row by row: "`TS`, last position taken (4), hosts-up mask (2, bit h for host h), monitors, next space number", of
 // four bytes, "counts of spaces, tuples (2), waiting", and the owed masks "right after the count of waiting". Only here is it said where a row stands.
 #![tactic(auto)]
 
@@ -35,7 +35,7 @@ pub fn set_last(state: &mut [u8], position: u32)
     words::put_number(state, words::LAST_AT, words::POSITION_WIDTH, position);
 }
 
-// "hosts_up mask (2, bit h for host h)".
+// "hosts-up mask (2, bit h for host h)".
 pub fn hosts(state: &[u8]) -> u16
     requires { header_size ≤ length state.now }
     ensures { (bits hosts result ≡ (decode state.now).up) × (result ≡ number_at mask_at mask_width state.now) }

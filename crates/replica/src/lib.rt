@@ -19,7 +19,7 @@ pub extern "C" fn replica_layout() -> u64
     words::LAYOUT
 }
 
-// The fresh_state call: 0, or 1 "for length".
+// The fresh-state call: 0, or 1 "for length".
 #[unsafe(no_mangle)]
 pub extern "C" fn replica_fresh(state: &mut [u8]) -> u64
     ensures { fresh_answer result state.new ≡ fresh_call state.old }
