@@ -1,4 +1,4 @@
-// The functions for C: a replica of the tuple space in a buffer that the caller lends, the writer of statements, and whether two templates can meet. `include/replica.h` says them in words.
+// The functions that `replica_c` exports to C: a replica of the tuple space in a buffer that the caller lends, the writer of statements, and whether two templates can meet. `include/replica.h` says them in words.
 #![tactic(auto)]
 
 ghost use Rattle.std.specs.Prelude.{◌≡◌};
@@ -12,24 +12,21 @@ use statements::Operation;
 mod steps;
 
 // The number of the layout, that is of the bytes and of their meaning, so that two replicas can be compared.
-#[unsafe(no_mangle)]
-pub extern "C" fn replica_layout() -> u64
+pub fn replica_layout() -> u64
     ensures { result ≡ layout_number }
 {
     words::LAYOUT
 }
 
 // The fresh-state call: 0, or 1 "for length".
-#[unsafe(no_mangle)]
-pub extern "C" fn replica_fresh(state: &mut [u8]) -> u64
+pub fn replica_fresh(state: &mut [u8]) -> u64
     ensures { fresh_answer result state.new ≡ fresh_call state.old }
 {
     fresh::fresh(state)
 }
 
 // The call for a record: 1 to 5 where it is turned back, else its reply byte count.
-#[unsafe(no_mangle)]
-pub extern "C" fn replica_take(state: &mut [u8], record: &[u8], reply: &mut [u8]) -> u64
+pub fn replica_take(state: &mut [u8], record: &[u8], reply: &mut [u8]) -> u64
     ensures { answer result state.new reply.new ≡ take_call (lent state.old «record».now reply.old) }
 {
     steps::take(state, record, reply)
@@ -38,8 +35,7 @@ pub extern "C" fn replica_take(state: &mut [u8], record: &[u8], reply: &mut [u8]
 // ---- the writer: 0, 6 or 2
 
 // A body is begun: "host, process and first guard".
-#[unsafe(no_mangle)]
-pub extern "C" fn replica_begin(
+pub fn replica_begin(
     body: &mut [u8],
     fill: &mut usize,
     host: u8,
@@ -54,8 +50,7 @@ pub extern "C" fn replica_begin(
 }
 
 // "one operation .. more", at the end of the last branch.
-#[unsafe(no_mangle)]
-pub extern "C" fn replica_operation(body: &mut [u8], fill: &mut usize, operation: Operation) -> u64
+pub fn replica_operation(body: &mut [u8], fill: &mut usize, operation: Operation) -> u64
     ensures { written_is (record { answer = result; fill = fill.new }) body.new ≡ add_operation body.old fill.old operation }
 {
     let filled = *fill;
@@ -65,8 +60,7 @@ pub extern "C" fn replica_operation(body: &mut [u8], fill: &mut usize, operation
 }
 
 // "or branch more": its guard, and no operation yet.
-#[unsafe(no_mangle)]
-pub extern "C" fn replica_branch(body: &mut [u8], fill: &mut usize, guard: Operation) -> u64
+pub fn replica_branch(body: &mut [u8], fill: &mut usize, guard: Operation) -> u64
     ensures { written_is (record { answer = result; fill = fill.new }) body.new ≡ add_branch body.old fill.old guard }
 {
     let filled = *fill;
@@ -78,8 +72,7 @@ pub extern "C" fn replica_branch(body: &mut [u8], fill: &mut usize, guard: Opera
 // ---- two templates: 1 or 0, 6 or 19
 
 // "Whether two templates can ever meet", each the bytes of one operation.
-#[unsafe(no_mangle)]
-pub extern "C" fn replica_can_meet(first: &[u8], second: &[u8]) -> u64
+pub fn replica_can_meet(first: &[u8], second: &[u8]) -> u64
     ensures { result ≡ can_meet first.now second.now }
 {
     meeting::can_meet(first, second)
