@@ -1,4 +1,4 @@
-//! Runs the program `cabinet`: ../target/bin/cabinet, or the file that CABINET names.
+//! Runs the program `cabinet`: ../crates/cabinet/out/cabinet, or the file that CABINET names.
 
 use std::fs::File;
 use std::io::Write;
@@ -10,7 +10,7 @@ use std::time::Duration;
 pub fn path() -> PathBuf {
     match std::env::var_os("CABINET") {
         Some(path) => PathBuf::from(path),
-        None => PathBuf::from(concat!(env!("CARGO_MANIFEST_DIR"), "/../target/bin/cabinet")),
+        None => PathBuf::from(concat!(env!("CARGO_MANIFEST_DIR"), "/../crates/cabinet/out/cabinet")),
     }
 }
 
