@@ -1,3 +1,2 @@
 // What a state may hold: tuples and waiting statements as literal bytes, in specs/ alone.
 #![tactic(auto)]
-

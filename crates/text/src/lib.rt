@@ -1,3 +1,2 @@
 // What the program prints: definitions, and their laws on the bytes of replies, in specs/ alone.
 #![tactic(auto)]
-

@@ -46,9 +46,9 @@ copy_branches-requires c =
     let buffer = c.args.out.now in
     let others = get_or b branch_count_at 0 - 1 in
     let begun = begin_turn b (true_is (legal_body b) c.requires.0) c.read_operation-r.result c.read_operation-r.ensures buffer (λ k. (c.type_inv.body k).fits) c.requires.1
-        _ _ refl c.word2-process.ensures c.begin_at-a.result c.begin_at-a.new.buffer c.begin_at-a.ensures in
+    _ _ refl c.word2-process.ensures c.begin_at-a.result c.begin_at-a.new.buffer c.begin_at-a.ensures in
     let first = c.copy_operations-c.ensures buffer others
-        (subst (λ (m : ℕ). Underway b buffer (c.read_operation-r.result.end + count_width) m others c.begin_at-a.result.fill c.begin_at-a.new.buffer) (sym c.size.ensures.0) begun) in
+    (subst (λ (m : ℕ). Underway b buffer (c.read_operation-r.result.end + count_width) m others c.begin_at-a.result.fill c.begin_at-a.new.buffer) (sym c.size.ensures.0) begun) in
     let here = on_its_own b buffer _ _ _ _ _ first (c.copy_operations-c.auto.out ∙ c.begin_at-a.auto.buffer) in
     subst (λ (m : ℕ). Underway b c.copy_operations-c.new.out c.copy_operations-c.result.at 0 (m - 1) c.copy_operations-c.result.fill c.copy_operations-c.new.out) (sym c.size-2.ensures.0) here
 
@@ -58,7 +58,7 @@ returns c =
     let buffer = c.args.out.now in
     let others = get_or b branch_count_at 0 - 1 in
     let begun = begin_turn b (true_is (legal_body b) c.requires.0) c.read_operation-r.result c.read_operation-r.ensures buffer (λ k. (c.type_inv.body k).fits) c.requires.1
-        _ _ refl c.word2-process.ensures c.begin_at-a.result c.begin_at-a.new.buffer c.begin_at-a.ensures in
+    _ _ refl c.word2-process.ensures c.begin_at-a.result c.begin_at-a.new.buffer c.begin_at-a.ensures in
     let first = c.copy_operations-c.ensures buffer others
-        (subst (λ (m : ℕ). Underway b buffer (c.read_operation-r.result.end + count_width) m others c.begin_at-a.result.fill c.begin_at-a.new.buffer) (sym c.size.ensures.0) begun) in
+    (subst (λ (m : ℕ). Underway b buffer (c.read_operation-r.result.end + count_width) m others c.begin_at-a.result.fill c.begin_at-a.new.buffer) (sym c.size.ensures.0) begun) in
     (c.copy_branches.ensures.0, c.copy_branches.ensures.1 ∙ ap (λ (l : List ℕ). b ++ l) (past_body b buffer _ _ _ _ _ first))

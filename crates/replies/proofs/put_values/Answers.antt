@@ -26,12 +26,13 @@ pub loop-x-preserved : goal.loop-x-preserved
 loop-x-preserved c = let a = c.args in
     let p = c.loop-x.invariant.2 in
     elim c.if-bound-x.branch [
-      then-bound-x w ↦ (
+      | then-bound-x w ↦ (
         omega arith,
         ap length w.out-is ∙ (w.put_value.auto.out ∙ c.loop-x.invariant.1),
         rw (w.out-is, w.count-is) (passed_yes a.bound a.kinds a.bits c.loop-x.x a.out.now c.loop-x.out w.put_value.new.out c.loop-x.count w.if-bound-x.true (omega (arith, p.few)) p w.put_value.ensures),
       )
-    | else-bound-x w ↦ (omega arith, ap length w.out-is ∙ c.loop-x.invariant.1, rw (w.out-is, w.count-is) (passed_no a.bound a.kinds a.bits c.loop-x.x a.out.now c.loop-x.out c.loop-x.count w.if-bound-x.false p)) ]
+      | else-bound-x w ↦ (omega arith, ap length w.out-is ∙ c.loop-x.invariant.1, rw (w.out-is, w.count-is) (passed_no a.bound a.kinds a.bits c.loop-x.x a.out.now c.loop-x.out c.loop-x.count w.if-bound-x.false p))
+    ]
 
 pub shape_of-out : goal.shape_of-out
 shape_of-out c = c.loop-x.invariant.1

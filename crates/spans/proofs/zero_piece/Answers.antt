@@ -16,8 +16,9 @@ loop-j-preserved c =
     let a = c.args in (
       omega arith,
       elim c.if-s-at-ne0.branch [
-        then-s-at-ne0 w ↦ w.all-is ∙ sym (zero_no a.s.now a.at c.loop-j.j w.if-s-at-ne0.true)
-      | else-s-at-ne0 w ↦ w.all-is ∙ (c.loop-j.invariant.1 ∙ sym (zero_yes a.s.now a.at c.loop-j.j w.if-s-at-ne0.false)) ],
+        | then-s-at-ne0 w ↦ w.all-is ∙ sym (zero_no a.s.now a.at c.loop-j.j w.if-s-at-ne0.true)
+        | else-s-at-ne0 w ↦ w.all-is ∙ (c.loop-j.invariant.1 ∙ sym (zero_yes a.s.now a.at c.loop-j.j w.if-s-at-ne0.false))
+      ],
     )
 
 pub returns : goal.returns

@@ -10,10 +10,10 @@ loop-i-init c = fields_start _ _ _ _ c.requires.1 c.requires.2 refl (all_replica
 
 pub returns-then-next-eq0 : goal.returns-then-next-eq0
 returns-then-next-eq0 c = (
-      fields_stop c.args.b.now c.args.at c.args.count c.loop-i.fields c.loop-i.fields c.loop-i.end c.loop-i.i c.read_field-r.result
-          c.loop-i-test.true c.loop-i.invariant c.read_field-r.ensures.0 c.if-next-eq0.true,
-      c.loop-i.invariant.formed,
-    )
+  fields_stop c.args.b.now c.args.at c.args.count c.loop-i.fields c.loop-i.fields c.loop-i.end c.loop-i.i c.read_field-r.result
+      c.loop-i-test.true c.loop-i.invariant c.read_field-r.ensures.0 c.if-next-eq0.true,
+  c.loop-i.invariant.formed,
+)
 
 pub loop-i-preserved : goal.loop-i-preserved
 loop-i-preserved c = fields_turn c.args.b.now c.args.at c.args.count c.loop-i.fields c.loop-i.end c.loop-i.i c.read_field-r.result

@@ -11,8 +11,8 @@ returns-then-f-eq0 c = reads_as _ _ _ c.no_operation_read.ensures (sym (no_field
 pub returns : goal.returns
 unfolding read_is operation_is
 returns c = record {
-      is = fields_read_lem c.read_front-f.result c.args.b.now _ c.read_front-f.ensures c.if-f-eq0.false c.read_fields-r.result c.read_fields-r.ensures.0;
-      code = c.read_front-f.ensures.code;
-      count = c.read_front-f.ensures.count;
-      formed = all_take has_form c.read_front-f.result.count c.read_fields-r.result.fields c.read_fields-r.ensures.1;
-    }
+  is = fields_read_lem c.read_front-f.result c.args.b.now _ c.read_front-f.ensures c.if-f-eq0.false c.read_fields-r.result c.read_fields-r.ensures.0;
+  code = c.read_front-f.ensures.code;
+  count = c.read_front-f.ensures.count;
+  formed = all_take has_form c.read_front-f.result.count c.read_fields-r.result.fields c.read_fields-r.ensures.1;
+}
