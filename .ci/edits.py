@@ -80,16 +80,16 @@ def is_changed(texts, name, number, declaration):
 # ---- what the prover said of it
 
 SAID = re.compile(r"rt: must-fail ([^\s/]+)/(\S+)\.edit: (.*)")
-REFUSED = re.compile(r"refused, as it must be(?: \(only (because a proof file|by a limit)[^:]*\))?(?:: (.*))?$")
+REFUSED = re.compile(r"refused, as it must be(?: \(only (because a proof file|by a limit)[^)]*\))?(?:: (.*))?$")
 UNMADE = re.compile(r"note: (\./)?\S+:\d+:\d+: it is not proved that ")
 ERROR = re.compile(r"(?:\./)?(?P<file>\S+?):(?P<line>\d+):\d+: error: (?P<text>.*)$")
 IN_A_DECLARATION = re.compile(r"`(?P<name>[^`]+)`: (?P<said>.*)$")
 NO_SUCH_NAME = re.compile(r"that can be named from here|` is not in scope|has no field|has no `|is no name")
 A_TACTIC = re.compile(r"`(rw|simp|search|grw|cc|omega|grind|subst)`: |give a proof of that as the last argument, `(simp|rw|grw) L t`")
-DIFFER = re.compile(r"(as printed|computed as far as they go), the two types (first )?(differ|are)\b")
+DIFFER = re.compile(r"(as printed|computed as far as they go), the two (types|sides) (first )?(differ|are)\b")
 ENDS_DIFFER = re.compile(r"but the extension \(path\) type requires")
 EXPECTED = re.compile(r"expected type `([^`]*)")    # maybe cut off
-FOUND = re.compile(r"this has type `([^`]*)")
+FOUND = re.compile(r"this has type `([^`]*)`")    # one that is cut off is not judged
 
 
 def plain(name):
@@ -144,9 +144,11 @@ def said_fault(said, texts):
         return "it was not tried: rt ci has no line of it"
     if said.startswith("BAD EDIT: "):
         return f"it is a bad edit, which shows nothing: {said[len('BAD EDIT: '):]}"
+    if said.startswith(("NOT REFUSED", "NOT TRIED")):
+        return None
     refused = REFUSED.match(said)
     if not refused:
-        return None
+        return f"rt ci says what is of no known kind of it: {said}"
     if refused[1] == "by a limit":
         why = "a limit ended the try"
     elif refused[1]:

@@ -70,6 +70,8 @@ def turn_rt(text, table, marked):
 
 def main():
     root = pathlib.Path(sys.argv[1] if len(sys.argv) > 1 else HERE.parent).resolve()
+    if (root / "docs" / "PORT.md").exists():
+        sys.exit(f"{root} is respelled already")
     everywhere, inside = rows()
     marked = {k: v for k, v in everywhere.items() if "-" in k or re.search("[A-Z]", k)}
     files = [p for p in sorted(root.glob("crates/*/**/*")) if p.is_file() and "out" not in p.relative_to(root).parts]

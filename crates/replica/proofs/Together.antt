@@ -2,9 +2,9 @@
 use Rattle.calls.specs.TwoReplicas.{Demand3}
 use Rattle.calls.proofs.Theorem.{theorem}
 use Rattle.replica.proofs.replica_fresh.Statement.{statement as FreshMeets}
-use Rattle.replica.proofs.replica_fresh.Met.{met as fresh-Meets}
+use Rattle.replica.proofs.replica_fresh.Met.{met as fresh_meets}
 use Rattle.replica.proofs.replica_take.Statement.{statement as TakeMeets}
-use Rattle.replica.proofs.replica_take.Met.{met as take_Meets}
+use Rattle.replica.proofs.replica_take.Met.{met as take_meets}
 
 -- `replica_fresh` meets its contract, which is `fresh_call`; `replica_take` meets its own, which is `take_call`; and the claim over two replicas, whose calls and restarts are these two definitions, holds.
 pub record Together : Type 2 where
@@ -13,4 +13,4 @@ pub record Together : Type 2 where
   pub two : Demand3
 
 pub together : Together
-together = record { fresh = fresh-Meets; take = take_Meets; two = theorem }
+together = record { fresh = fresh_meets; take = take_meets; two = theorem }
