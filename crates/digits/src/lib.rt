@@ -34,10 +34,8 @@ pub fn put_bits(out: &mut [u8], at: usize, replies: &[u8], from: usize)
     requires { (at + 2 * bits_width ≤ length out.old) × (from + bits_width ≤ length replies.now) }
     ensures { out.new ≡ over out.old at (flat_map hex_byte (take bits_width (drop from replies.now))) (2 * bits_width) }
 {
-    let mut i = 0;
-    while i < words::BITS_WIDTH {
+    for i in 0..words::BITS_WIDTH {
         put_byte(out, at + 2 * i, replies[from + i]);
-        i += 1;
     }
 }
 
@@ -47,7 +45,7 @@ pub fn put_number(out: &mut [u8], at: usize, n: u32) -> usize
     ensures { Put (decimal n) out.old out.new at result }
 {
     let mut text = [0u8; 20];
-    let k = io::decimal(n as u64, &mut text);
+    let k = io::decimal(u64::from(n), &mut text);
     spans::copy_at(out, at, &text[..k]);
     at + k
 }

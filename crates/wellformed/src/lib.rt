@@ -16,15 +16,10 @@ fn field_ok(tuples: &[u8], i: usize, f: usize, used: bool) -> bool
 {
     let kind = tuples::kind(tuples, i, f);
     if used {
-        if kind == values::WHOLE {
-            return true;
-        }
-        return values::legal_value(kind, tuples::bits(tuples, i, f));
+        kind == values::WHOLE || values::legal_value(kind, tuples::bits(tuples, i, f))
+    } else {
+        kind == 0 && tuples::bits(tuples, i, f) == 0
     }
-    if kind == 0 {
-        return tuples::bits(tuples, i, f) == 0;
-    }
-    false
 }
 
 // Whether of the six values of the row at index i the first `count` are legal and the others zero.
@@ -32,12 +27,10 @@ fn fields_ok(tuples: &[u8], i: usize, count: usize) -> bool
     requires { HasRows tuple_size tuples.now (i + 1) }
     ensures { result ≡ each_field (field_ok_at count) 0 (values_in tuples.now i most_fields) }
 {
-    let mut f = 0;
-    while f < words::MOST_FIELDS {
+    for f in 0..words::MOST_FIELDS {
         if !field_ok(tuples, i, f, f < count) {
             return false;
         }
-        f += 1;
     }
     true
 }
@@ -48,13 +41,7 @@ pub fn tuple_ok(tuples: &[u8], i: usize) -> bool
     ensures { result ≡ is_entry (entry_at tuples.now i) }
 {
     let count = tuples::field_count(tuples, i);
-    if count < 1 {
-        return false;
-    }
-    if words::MOST_FIELDS < count {
-        return false;
-    }
-    fields_ok(tuples, i, count)
+    count >= 1 && count <= words::MOST_FIELDS && fields_ok(tuples, i, count)
 }
 
 // "All unused bytes are zero": those past n rows.

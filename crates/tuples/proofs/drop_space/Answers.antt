@@ -12,4 +12,4 @@ drop_rows-requires c = (holds_section tuple_shape _ _ _ c.requires, omega arith,
 
 pub returns : goal.returns
 returns c =
-    holds_keep tuple_shape _ _ _ c.requires (lacks 0 space_width c.args.space) (outside c.args.space) (lacks_space c.args.space) _ _ c.drop_rows.ensures
+    holds_keep tuple_shape _ _ _ c.requires (lacks 0 space_width c.args.space) (outside c.args.space) (lacks_space c.args.space) _ _ (rw c.from.ensures at c.drop_rows.ensures)

@@ -1,5 +1,5 @@
 -- `tuples::move_rows_up` meets its contract. Assumes nothing.
-use mathlib.Core.Path.{◌≡◌, refl, sym, ◌∙◌}
+use mathlib.Core.Path.{◌≡◌, sym}
 use Prim.Native.Nat.{◌-◌, ◌*◌}
 use native.Mathlib.Nat.{add-zero, sub-zero}
 use native.Mathlib.Omega.{arith}
@@ -17,15 +17,15 @@ pub loop-k-init : goal.loop-k-init
 loop-k-init c =
     let a = c.args in
     let none : a.n - a.n ≡ 0 = omega arith in
-    (omega arith, refl, rw none (over_none _ _ _))
+    rw none (over_none _ _ _)
 
 pub loop-k-preserved : goal.loop-k-preserved
 loop-k-preserved c =
     let a = c.args in
-    (omega arith, c.move_row.auto.tuples ∙ c.loop-k.invariant.1, rows_up a.tuples.now c.loop-k.tuples _ a.to a.from a.n c.loop-k.k _ c.requires.0 (omega arith) c.loop-k.invariant.0 c.requires.1 c.loop-k.invariant.2 c.move_row.ensures)
+    rows_up a.tuples.now c.loop-k.tuples _ a.to a.from a.n c.loop-k.k _ c.requires.0 (omega arith) c.loop-k.auto.k c.requires.1 c.loop-k.invariant c.move_row.ensures
 
 pub returns : goal.returns
 returns c =
     let h = c.loop-k in
     let none : h.k ≡ 0 = omega arith in
-    simp (none, add-zero, sub-zero) at h.invariant.2
+    simp (none, add-zero, sub-zero) at h.invariant

@@ -1,13 +1,9 @@
--- `tuples::move_rows_up` meets its contract. Assumes nothing.
+-- What the loop of `tuples::move_rows_up` keeps. Assumes nothing.
 use mathlib.Core.Path.{◌≡◌}
-use Prim.Native.Nat.{◌+◌, ◌-◌, ◌≤◌}
-use lib.ListN.{length}
+use Prim.Native.Nat.{◌+◌, ◌-◌}
 use Rattle.basis.specs.Sizes.{tuple_size}
 use Rattle.sections.specs.Rows.{rows_from, rows_over}
 use Rattle.tuples.proofs.move_rows_up.Given as goal
 
 abbrev pub invariant-loop-k : goal.invariant-loop-k
-invariant-loop-k l = (l.k ≤ l.n) × (length l.tuples ≡ length l.initial.tuples) × (l.tuples ≡ rows_over tuple_size l.initial.tuples (l.to + l.k) (rows_from tuple_size l.initial.tuples (l.from + l.k)) (l.n - l.k))
-
-abbrev pub decreases-loop-k : goal.decreases-loop-k
-decreases-loop-k l = l.k
+invariant-loop-k l = l.tuples ≡ rows_over tuple_size l.initial.tuples (l.to + l.k) (rows_from tuple_size l.initial.tuples (l.from + l.k)) (l.n - l.k)

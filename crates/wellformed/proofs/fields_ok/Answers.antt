@@ -1,5 +1,4 @@
 -- `wellformed::fields_ok` meets its contract. Assumes nothing.
-use native.Mathlib.Omega.{arith}
 use mathlib.Core.Path.{sym, ap, ◌∙◌}
 use Rattle.basis.specs.Sizes.{most_fields}
 use Rattle.tuples.specs.Entry.{each_field}
@@ -8,19 +7,19 @@ use Rattle.wellformed.specs.Fields.{field_ok_at}
 use Rattle.wellformed.proofs.fields_ok.Goals as goal
 
 pub loop-f-init : goal.loop-f-init
-loop-f-init c = let a = c.args in (omega arith, ap (each_field (field_ok_at a.count) 0) (sym (from_first a.tuples.now a.i most_fields)))
+loop-f-init c = let a = c.args in ap (each_field (field_ok_at a.count) 0) (sym (from_first a.tuples.now a.i most_fields))
 
 pub returns-then-not-field_ok : goal.returns-then-not-field_ok
 returns-then-not-field_ok c =
     let a = c.args in
-    sym (c.loop-f.invariant.1 ∙ each_miss (field_ok_at a.count) a.tuples.now a.i most_fields c.loop-f.f c.loop-f-test.true (sym c.field_ok.ensures ∙ c.if-not-field_ok.true))
+    sym (c.loop-f.invariant ∙ each_miss (field_ok_at a.count) a.tuples.now a.i most_fields c.loop-f.f c.loop-f-test.true (sym c.field_ok.ensures ∙ c.if-not-field_ok.true))
 
 pub loop-f-preserved : goal.loop-f-preserved
 loop-f-preserved c =
     let a = c.args in
-    (omega arith, c.loop-f.invariant.1 ∙ each_more (field_ok_at a.count) a.tuples.now a.i most_fields c.loop-f.f c.loop-f-test.true (sym c.field_ok.ensures ∙ c.if-not-field_ok.false))
+    c.loop-f.invariant ∙ each_more (field_ok_at a.count) a.tuples.now a.i most_fields c.loop-f.f c.loop-f-test.true (sym c.field_ok.ensures ∙ c.if-not-field_ok.false)
 
 pub returns : goal.returns
 returns c =
     let a = c.args in
-    sym (c.loop-f.invariant.1 ∙ each_end (field_ok_at a.count) a.tuples.now a.i most_fields c.loop-f.f c.loop-f-test.false)
+    sym (c.loop-f.invariant ∙ each_end (field_ok_at a.count) a.tuples.now a.i most_fields c.loop-f.f c.loop-f-test.false)

@@ -1,5 +1,4 @@
--- `wellformed::fields_ok` meets its contract. Assumes nothing.
-use Prim.Native.Nat.{◌-◌, ◌≤◌}
+-- What the loop of `wellformed::fields_ok` keeps. Assumes nothing.
 use mathlib.Core.Path.{◌≡◌}
 use Rattle.basis.specs.Sizes.{most_fields}
 use Rattle.tuples.specs.Entry.{values_in, values_from, each_field}
@@ -7,7 +6,4 @@ use Rattle.wellformed.specs.Fields.{field_ok_at}
 use Rattle.wellformed.proofs.fields_ok.Given as goal
 
 abbrev pub invariant-loop-f : goal.invariant-loop-f
-invariant-loop-f l = (l.f ≤ most_fields) × (each_field (field_ok_at l.count) 0 (values_in l.tuples l.i most_fields) ≡ each_field (field_ok_at l.count) l.f (values_from l.tuples l.i most_fields l.f))
-
-abbrev pub decreases-loop-f : goal.decreases-loop-f
-decreases-loop-f l = most_fields - l.f
+invariant-loop-f l = each_field (field_ok_at l.count) 0 (values_in l.tuples l.i most_fields) ≡ each_field (field_ok_at l.count) l.f (values_from l.tuples l.i most_fields l.f)
