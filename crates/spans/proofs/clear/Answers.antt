@@ -1,22 +1,15 @@
 -- `spans::clear` meets its contract. Assumes nothing.
-use mathlib.Core.Path.{◌≡◌}
-use native.Mathlib.Omega.{arith}
-use lib.ListN.{length-set}
-use Rattle.words.specs.OverLaws.{over_none}
-use Rattle.spans.proofs.Stores.{zeros_at_lem}
+use Rattle.std.proofs.Common.{◌≡◌, ◌∙◌, ◌+◌, ◌-◌, ◌≤◌, arith, length, take, drop, length-drop, length-take-le, take_all, sym, ap}
+use Rattle.basis.specs.Lists.{zeros}
+use Rattle.basis.specs.PadLaws.{zeros_length}
+use Rattle.spans.proofs.Stores.{stored}
 use Rattle.spans.proofs.clear.Goals as goal
 
-pub loop-i-init : goal.loop-i-init
-loop-i-init c = (omega arith, omega arith, over_none _ _ _)
-
-pub loop-i-preserved : goal.loop-i-preserved
-loop-i-preserved c =
-    let h = c.loop-i in
-    let a = c.args in
-    (omega arith, simp length-set (omega arith), rw h.invariant.2 (zeros_at_lem a.a.now a.at a.n h.i (omega arith) (omega arith)))
-
 pub returns : goal.returns
+unfolding zeros
 returns c =
-    let h = c.loop-i in
-    let e : h.i ≡ c.args.n = omega arith in
-    rw e at h.invariant.2
+    let a = c.args in
+    let few : length (zeros a.n) ≤ a.n = omega (arith, zeros_length a.n) in
+    let fits : a.at + a.n - a.at ≤ length (drop a.at a.a.now) = simp length-drop (omega arith) in
+    let long : length (take (a.at + a.n - a.at) (drop a.at a.a.now)) ≡ a.n = length-take-le _ _ fits ∙ omega arith in
+    stored a.a.now a.at _ _ (zeros a.n) a.n (omega arith) (omega (arith, zeros_length a.n)) (c.fill.ensures.after (λ y e. e) ∙ (ap zeros long ∙ sym (take_all a.n (zeros a.n) few)))

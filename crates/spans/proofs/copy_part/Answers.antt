@@ -1,22 +1,11 @@
 -- `spans::copy_part` meets its contract. Assumes nothing.
-use mathlib.Core.Path.{◌≡◌}
-use native.Mathlib.Omega.{arith}
-use lib.ListN.{length-set}
-use Rattle.words.specs.OverLaws.{over_none}
-use Rattle.spans.proofs.Stores.{part_at_lem}
+use Rattle.std.proofs.Common.{◌≡◌, ◌∙◌, ap, ℕ, ◌-◌, ◌+◌, ◌≤◌, arith, length, drop, take, length-drop}
+use Rattle.spans.proofs.Stores.{stored}
 use Rattle.spans.proofs.copy_part.Goals as goal
-
-pub loop-i-init : goal.loop-i-init
-loop-i-init c = (omega arith, omega arith, over_none _ _ _)
-
-pub loop-i-preserved : goal.loop-i-preserved
-loop-i-preserved c =
-    let h = c.loop-i in
-    let a = c.args in
-    (omega arith, simp length-set (omega arith), rw h.invariant.2 (part_at_lem a.d.now a.at a.s.now a.from h.i (omega arith) (omega arith)))
 
 pub returns : goal.returns
 returns c =
-    let h = c.loop-i in
-    let e : h.i ≡ c.args.n = omega arith in
-    rw e at h.invariant.2
+    let a = c.args in
+    let e : a.from + a.n - a.from ≡ a.n = omega arith in
+    let room : a.n ≤ length (drop a.from a.s.now) = simp length-drop (omega arith) in
+    stored a.d.now a.at _ _ (drop a.from a.s.now) a.n (omega arith) room (c.copy_from_slice.ensures.after ∙ ap (λ (k : ℕ). take k (drop a.from a.s.now)) e)
