@@ -2,8 +2,8 @@
 use Rattle.std.proofs.Math.Path.{◌≡◌, refl}
 use Rattle.std.proofs.Common.{sym, ap, ◌∙◌, arith, inl, inr, ltb→lt}
 use Rattle.std.specs.Prelude.{ℕ, zero, suc, ◌+◌, ◌-◌, ◌*◌, ◌/◌, ◌≤◌, ◌<◌, List, [], ◌∷◌, ◌⊎◌, length, get_or, Bool, ◌&&◌}
-use Rattle.std.proofs.Math.Dec.{leb, ltb}
-use borrow.Author.Tests.{eq-eqb, ne_eqb, ltb-true, ltb-false, leb-true, leb-false, lt-ltb, le-ltb}
+use Rattle.std.proofs.Math.Dec.{leb, ltb, eqb}
+use borrow.Author.Tests.{eq-eqb, ne_eqb, eqb-true, eqb-false, ltb-true, ltb-false, leb-true, leb-false, lt-ltb, le-ltb}
 use Rattle.std.proofs.Math.Bool.{true, false}
 use Rattle.basis.specs.Logic.{and_l, and_r}
 use Rattle.basis.specs.Lists.{all, pairwise}
@@ -12,10 +12,14 @@ use Rattle.basis.specs.Numbers.{number_at}
 use Rattle.basis.specs.Sizes.{space_width, space_size, most_spaces}
 use Rattle.model.specs.Run.{Space}
 use Rattle.layout.specs.States.{space_read}
+use Rattle.std.proofs.Math.Option.{some, none}
+use Rattle.std.specs.Prelude as code
+use Rattle.std.specs.Bool.{then_some}
+use Rattle.basis.specs.Choice.{provided, given}
 use Rattle.sections.specs.Rows.{index_of}
 use Rattle.sections.specs.RowLaws.{number_in_lem}
 use Rattle.sections.specs.Shapes.{get_d_member, item_at, items_length}
-use Rattle.spaces.specs.Spaces.{space_shape, spaces_of, Rising, numbered, no_space}
+use Rattle.spaces.specs.Spaces.{space_shape, spaces_of, Rising, numbered, place_of, no_space}
 use Rattle.spaces.specs.Legal.{lower}
 
 -- the number of the space at an index
@@ -101,7 +105,7 @@ module _ (p : List ℕ) (n m : ℕ) (rise : Rising (spaces_of p n)) where
   count = items_length space_shape p n
 
   -- an entry of the number
-  pub place_here : (i : ℕ) → i < n → number_in ss i ≡ m → i ≡ index_of (numbered m) ss
+  place_here : (i : ℕ) → i < n → number_in ss i ≡ m → i ≡ index_of (numbered m) ss
   place_here i h e = index_here ss i m rise (omega (arith, count)) e
 
   module _ (low left half : ℕ) (a : Among p n m low left) (much : 1 < left) (is : half ≡ left / 2) where
@@ -121,7 +125,7 @@ module _ (p : List ℕ) (n m : ℕ) (rise : Rising (spaces_of p n)) where
         go j k l (inr q) = omega (arith, h (omega arith), rising_at ss (low + half) j rise q (omega (arith, count)))
 
   -- of one entry that is left, it is this one or none
-  pub among_other : (low left : ℕ) → Among p n m low left → left ≤ 1 → low < n → (number_in ss low ≡ m → ⊥) → n ≡ index_of (numbered m) ss
+  among_other : (low left : ℕ) → Among p n m low left → left ≤ 1 → low < n → (number_in ss low ≡ m → ⊥) → n ≡ index_of (numbered m) ss
   among_other low left a few h other = sym count ∙ index_nowhere ss m (λ j k. go j (omega (arith, count)) (apart j low) (apart low j))
     where
       go : (j : ℕ) → j < n → (low ≤ j) ⊎ (j < low) → (j ≤ low) ⊎ (low < j) → number_in ss j ≡ m → ⊥
@@ -129,5 +133,25 @@ module _ (p : List ℕ) (n m : ℕ) (rise : Rising (spaces_of p n)) where
       go j l (inl q) (inl w) z = let same : low ≡ j = omega arith in other (rw same z)
       go j l (inl q) (inr w) z = omega (arith, a.above j (omega arith) l)
 
-  pub among_none : (low left : ℕ) → Among p n m low left → n ≤ low → n ≡ index_of (numbered m) ss
+  among_none : (low left : ℕ) → Among p n m low left → n ≤ low → n ≡ index_of (numbered m) ss
   among_none low left a h = sym count ∙ index_nowhere ss m (λ j k q. omega (arith, count, a.some (omega (arith, count))))
+
+  place_some : (i : ℕ) → i < n → number_in ss i ≡ m → some i ≡ place_of m ss
+  unfolding place_of provided
+  place_some i h e = rw (← place_here i h e, count, lt-ltb i n h)
+
+  place_none : n ≡ index_of (numbered m) ss → none ≡ place_of m ss
+  unfolding place_of provided
+  place_none e = rw (← e, count, le-ltb n n (omega arith))
+
+  -- what the code gives: none is left,
+  pub none_left : (low left : ℕ) → Among p n m low left → n ≤ low → none ≡ place_of m ss
+  none_left low left a h = place_none (among_none low left a h)
+
+  -- or one
+  pub one_left : (low left x : ℕ) (o : code.Option ℕ) → Among p n m low left → left ≤ 1 → low < n → x ≡ number_in ss low → o ≡ then_some (eqb x m) low → given o ≡ place_of m ss
+  one_left low left x o a few h is e = go (eqb x m) refl (ap given e)
+    where
+      go : (t : Bool) → eqb x m ≡ t → given o ≡ given (then_some t low) → given o ≡ place_of m ss
+      go true q f = f ∙ place_some low h (sym is ∙ eqb-true x m q)
+      go false q f = f ∙ place_none (among_other low left a few h (λ z. eqb-false x m q (is ∙ z)))

@@ -4,7 +4,7 @@ use Rattle.std.proofs.Math.Path.{sym, ap}
 use Rattle.std.proofs.Common.{◌∙◌, arith, get_or-drop, ltb→lt}
 use Rattle.std.proofs.Math.ListN.{get_or}
 use Rattle.std.proofs.Math.Seq.{get_or-take}
-use borrow.Author.Tests.{eqb-true, eq-eqb, ne_eqb, lt-ltb, le-ltb}
+use borrow.Author.Tests.{eqb-true, eq-eqb, ne_eqb, ltb-true, ltb-false}
 use Rattle.basis.specs.Logic.{and_l, and_r}
 use Rattle.basis.specs.Lists.{all, any, pairwise, zeros}
 use Rattle.basis.specs.Numbers.{big_endian, number_at}
@@ -15,11 +15,16 @@ use Rattle.model.specs.Run.{Access, shared, private, Space, is_open, denied_to, 
 use Rattle.layout.specs.States.{access_bytes, space_bytes, byte_at, space_read}
 use Rattle.words.specs.Over.{over}
 use Rattle.words.specs.WordLaws.{number_at_1}
+use Rattle.std.proofs.Math.Option.{none, some, some-injective, none-ne-some}
+use Rattle.std.specs.Prelude as code
+use Rattle.std.specs.Prelude.{None, Some}
+use Rattle.std.specs.Option as code_option
+use Rattle.basis.specs.Choice.{is_some, provided, given}
 use Rattle.sections.specs.Rows.{has, lacks, index_of, HasRows}
 use Rattle.sections.specs.RowLaws.{number_in_lem}
 use Rattle.sections.specs.Loops.{index_any}
 use Rattle.sections.specs.Shapes.{entry, item_at, items_length}
-use Rattle.spaces.specs.Spaces.{Small, space_shape, spaces_of, Rising, numbered, other_than, opening, no_space}
+use Rattle.spaces.specs.Spaces.{Small, space_shape, spaces_of, Rising, numbered, place_of, other_than, opening, no_space}
 
 -- ---- the number of a row
 
@@ -38,11 +43,39 @@ lacks_number m a l = ap not (has_number m a l)
 -- ---- the first of a number
 
 -- it is there exactly if the space is open
-pub open_is : (p : List ℕ) (n m r : ℕ) → r ≡ index_of (numbered m) (spaces_of p n) → ltb r n ≡ is_open (spaces_of p n) m
-unfolding is_open
-open_is p n m r e =
-    ap (λ (k : ℕ). ltb k n) e
-    ∙ (ap (λ (k : ℕ). ltb (index_of (numbered m) (spaces_of p n)) k) (sym (items_length space_shape p n)) ∙ index_any (numbered m) (spaces_of p n))
+place_is : (m : ℕ) (ss : List Space) → is_some (place_of m ss) ≡ is_open ss m
+unfolding is_some place_of provided is_open
+place_is m ss = go (ltb (index_of (numbered m) ss) (length ss)) (index_any (numbered m) ss)
+  where
+    go : (t : Bool) → t ≡ is_open ss m → is_some (provided t (index_of (numbered m) ss)) ≡ is_open ss m
+    go true e = e
+    go false e = e
+
+pub open_is : (m : ℕ) (ss : List Space) (o : code.Option ℕ) (r : Bool) → given o ≡ place_of m ss → r ≡ code_option.is_some o → r ≡ is_open ss m
+unfolding is_some
+open_is m ss o r e f = f ∙ (go o ∙ (ap is_some e ∙ place_is m ss))
+  where
+    go : (o : code.Option ℕ) → code_option.is_some o ≡ is_some (given o)
+    go None = refl
+    go (Some i) = refl
+
+-- and where it is
+module _ (m : ℕ) (ss : List Space) where
+  place_some : (i : ℕ) → some i ≡ place_of m ss → (i ≡ index_of (numbered m) ss) × (i < length ss)
+  unfolding place_of provided
+  place_some i e = go (ltb (index_of (numbered m) ss) (length ss)) refl e
+    where
+      go : (t : Bool) → ltb (index_of (numbered m) ss) (length ss) ≡ t → some i ≡ provided t (index_of (numbered m) ss) → (i ≡ index_of (numbered m) ss) × (i < length ss)
+      go true q f = let k = some-injective i (index_of (numbered m) ss) f in (k, rw k (ltb-true (index_of (numbered m) ss) (length ss) q))
+      go false q f = absurd (none-ne-some i (sym f))
+
+  place_none : none ≡ place_of m ss → length ss ≤ index_of (numbered m) ss
+  unfolding place_of provided
+  place_none e = go (ltb (index_of (numbered m) ss) (length ss)) refl e
+    where
+      go : (t : Bool) → ltb (index_of (numbered m) ss) (length ss) ≡ t → none ≡ provided t (index_of (numbered m) ss) → length ss ≤ index_of (numbered m) ss
+      go true q f = absurd (none-ne-some (index_of (numbered m) ss) f)
+      go false q f = ltb-false (index_of (numbered m) ss) (length ss) q
 
 -- a number that all pass stands nowhere among them
 none_denied : (p m : ℕ) (ss : List Space) → T (all (λ b. ltb m b.number) ss) → is_denied ss p m ≡ false
@@ -82,18 +115,31 @@ denied_none p m (a ∷ ss) h = go (eqb a.number m) h (denied_none p m ss)
 
 -- ---- what the code's answers come to
 
-module _ (p : List ℕ) (n m r q : ℕ) (e : r ≡ index_of (numbered m) (spaces_of p n)) where
-  pub absent : n ≤ r → false ≡ is_denied (spaces_of p n) q m
-  absent h = sym (denied_none q m (spaces_of p n) (omega (arith, items_length space_shape p n)))
+module _ (p : List ℕ) (n m q : ℕ) where
+  abbrev ss : List Space
+  ss = spaces_of p n
 
-  pub present : (t : Bool) → Rising (spaces_of p n) → r < n → t ≡ denied_to q (get_or (spaces_of p n) r no_space).access → t ≡ is_denied (spaces_of p n) q m
-  present t rise h y = y ∙ (ap (λ (i : ℕ). denied_to q (get_or (spaces_of p n) i no_space).access) e ∙ sym (denied_at q m (spaces_of p n) rise (omega (arith, items_length space_shape p n))))
+  module _ (e : none ≡ place_of m ss) where
+    pub absent : false ≡ is_denied ss q m
+    absent = sym (denied_none q m ss (place_none m ss e))
 
-  pub shut : n ≤ r → false ≡ (is_open (spaces_of p n) m && not (is_denied (spaces_of p n) q m))
-  shut h = rw (← open_is p n m r e, le-ltb r n h)
+    pub shut : false ≡ (is_open ss m && not (is_denied ss q m))
+    unfolding is_some
+    shut = rw (← place_is m ss, ← e)
 
-  pub let_in : (t : Bool) → Rising (spaces_of p n) → r < n → t ≡ denied_to q (get_or (spaces_of p n) r no_space).access → not t ≡ (is_open (spaces_of p n) m && not (is_denied (spaces_of p n) q m))
-  let_in t rise h y = rw (← open_is p n m r e, lt-ltb r n h, ← present t rise h y)
+  module _ (r : ℕ) (e : some r ≡ place_of m ss) where
+    pub within : r < n
+    within = omega (arith, (place_some m ss r e).1, items_length space_shape p n)
+
+    module _ (t : Bool) (rise : Rising ss) (y : t ≡ denied_to q (get_or ss r no_space).access) where
+      pub present : t ≡ is_denied ss q m
+      present =
+          let k = place_some m ss r e in
+          y ∙ (ap (λ (i : ℕ). denied_to q (get_or ss i no_space).access) k.0 ∙ sym (denied_at q m ss rise (rw k.0 at k.1)))
+
+      pub let_in : not t ≡ (is_open ss m && not (is_denied ss q m))
+      unfolding is_some
+      let_in = rw (← place_is m ss, ← e, ← present)
 
 -- ---- kind and owner of a row
 

@@ -2,12 +2,13 @@
 #![tactic(auto)]
 
 ghost use Rattle.std.specs.Prelude.{◌≡◌, ◌+◌, ◌≤◌, ◌<◌, true, not, ◌&&◌, [], ◌∷◌, ◌++◌, length, get_or};
+ghost use Rattle.basis.specs.Choice.{given};
 ghost use Rattle.basis.specs.Lists.{all, keep, pieces};
 ghost use Rattle.basis.specs.Sizes.{most_spaces, space_numbers, space_size, spaces_size};
 ghost use Rattle.model.specs.Run.{is_open, denied_to, is_denied};
 ghost use Rattle.layout.specs.States.{space_bytes};
-ghost use Rattle.sections.specs.Rows.{index_of, HasRows};
-ghost use Rattle.spaces.specs.Spaces.{spaces_of, Listed, IsListed, Rising, numbered, other_than, opening, no_space};
+ghost use Rattle.sections.specs.Rows.{HasRows};
+ghost use Rattle.spaces.specs.Spaces.{spaces_of, Listed, IsListed, Rising, place_of, other_than, opening, no_space};
 ghost use Rattle.spaces.specs.Legal.{spaces_legal, access_ok};
 ghost use Rattle.spaces.specs.SearchLaws.{number_in, reached};
 
@@ -26,23 +27,17 @@ fn reaches(spaces: &[u8], n: usize, i: usize, number: u16) -> bool
     requires { HasRows space_size spaces.now n }
     ensures { result ≡ reached (spaces_of spaces.now n) n number i }
 {
-    if n <= i {
-        return false;
-    }
-    number_at(spaces, n, i) <= number
+    i < n && number_at(spaces, n, i) <= number
 }
 
-// The index of the space of a number, where numbers rise; n, where it is not open. One space is compared; otherwise what is left from index
-// `low` on is halved. Halving begins with room for all spaces, so that it always has the same few steps.
-fn place(spaces: &[u8], n: usize, number: u16) -> usize
+// The index of the space of a number, where numbers rise, if it is open. One space is compared; otherwise what is left from index `low` on
+// is halved. Halving begins with room for all spaces, so that it always has the same few steps (branch-free speed: no loop over the spaces).
+fn place(spaces: &[u8], n: usize, number: u16) -> Option<usize>
     requires { HasRows space_size spaces.now n × (n ≤ most_spaces) × Rising (spaces_of spaces.now n) }
-    ensures { result ≡ index_of (numbered number) (spaces_of spaces.now n) }
+    ensures { given result ≡ place_of number (spaces_of spaces.now n) }
 {
     if n == 1 {
-        if number_at(spaces, n, 0) == number {
-            return 0;
-        }
-        return n;
+        return (number_at(spaces, n, 0) == number).then_some(0);
     }
     let mut low = 0;
     let mut left = words::MOST_SPACES;
@@ -55,13 +50,7 @@ fn place(spaces: &[u8], n: usize, number: u16) -> usize
             left -= half;
         }
     }
-    if n <= low {
-        return n;
-    }
-    if number_at(spaces, n, low) == number {
-        return low;
-    }
-    n
+    (low < n && number_at(spaces, n, low) == number).then_some(low)
 }
 
 // Whether a space is open.
@@ -69,7 +58,7 @@ pub fn is_open(spaces: &[u8], n: usize, number: u16) -> bool
     requires { IsListed spaces.now n × Rising (spaces_of spaces.now n) }
     ensures { result ≡ is_open (spaces_of spaces.now n) number }
 {
-    place(spaces, n, number) < n
+    place(spaces, n, number).is_some()
 }
 
 // Whether the space at an index is private to another process.
@@ -77,17 +66,15 @@ fn denied_at(spaces: &[u8], n: usize, i: usize, process: u16) -> bool
     requires { HasRows space_size spaces.now n × (i < n) }
     ensures { result ≡ denied_to process (get_or (spaces_of spaces.now n) i no_space).access }
 {
-    if sections::field(spaces, ROW, n, i, words::SPACE_KIND_AT, words::KIND_WIDTH) != 1 {
-        return false;
-    }
-    sections::field(
-        spaces,
-        ROW,
-        n,
-        i,
-        words::SPACE_OWNER_AT,
-        words::PROCESS_WIDTH,
-    ) != process as u32
+    sections::field(spaces, ROW, n, i, words::SPACE_KIND_AT, words::KIND_WIDTH) == 1
+        && sections::field(
+            spaces,
+            ROW,
+            n,
+            i,
+            words::SPACE_OWNER_AT,
+            words::PROCESS_WIDTH,
+        ) != u32::from(process)
 }
 
 // Whether a space is private to another process.
@@ -95,10 +82,9 @@ pub fn is_denied(spaces: &[u8], n: usize, number: u16, process: u16) -> bool
     requires { IsListed spaces.now n × Rising (spaces_of spaces.now n) }
     ensures { result ≡ is_denied (spaces_of spaces.now n) process number }
 {
-    let i = place(spaces, n, number);
-    if n <= i {
+    let Some(i) = place(spaces, n, number) else {
         return false;
-    }
+    };
     denied_at(spaces, n, i, process)
 }
 
@@ -107,10 +93,9 @@ pub fn is_open_to(spaces: &[u8], n: usize, number: u16, process: u16) -> bool
     requires { IsListed spaces.now n × Rising (spaces_of spaces.now n) }
     ensures { result ≡ (is_open (spaces_of spaces.now n) number && not (is_denied (spaces_of spaces.now n) process number)) }
 {
-    let i = place(spaces, n, number);
-    if n <= i {
+    let Some(i) = place(spaces, n, number) else {
         return false;
-    }
+    };
     !denied_at(spaces, n, i, process)
 }
 
@@ -141,7 +126,7 @@ pub fn close(spaces: &mut [u8], n: usize, number: u16) -> usize
     requires { IsListed spaces.old n }
     ensures { Listed spaces.new result (keep (other_than number) (spaces_of spaces.old n)) }
 {
-    sections::drop_rows(spaces, ROW, n, 0, words::SPACE_WIDTH, number as u32)
+    sections::drop_rows(spaces, ROW, n, 0, words::SPACE_WIDTH, u32::from(number))
 }
 
 // ---- the test of a state
@@ -151,21 +136,20 @@ fn access_ok(spaces: &[u8], n: usize, i: usize) -> bool
     requires { HasRows space_size spaces.now n × (i < n) }
     ensures { result ≡ access_ok (get_or (pieces n space_size spaces.now) i []) }
 {
-    let kind = sections::field(spaces, ROW, n, i, words::SPACE_KIND_AT, words::KIND_WIDTH);
-    if kind == 1 {
-        return true;
+    match sections::field(spaces, ROW, n, i, words::SPACE_KIND_AT, words::KIND_WIDTH) {
+        0 => {
+            sections::field(
+                spaces,
+                ROW,
+                n,
+                i,
+                words::SPACE_OWNER_AT,
+                words::PROCESS_WIDTH,
+            ) == 0
+        }
+        1 => true,
+        _ => false,
     }
-    if kind != 0 {
-        return false;
-    }
-    sections::field(
-        spaces,
-        ROW,
-        n,
-        i,
-        words::SPACE_OWNER_AT,
-        words::PROCESS_WIDTH,
-    ) == 0
 }
 
 // Those of n rows.
@@ -173,12 +157,10 @@ fn accesses_ok(spaces: &[u8], n: usize) -> bool
     requires { HasRows space_size spaces.now n }
     ensures { result ≡ all access_ok (pieces n space_size spaces.now) }
 {
-    let mut i = 0;
-    while i < n {
+    for i in 0..n {
         if !access_ok(spaces, n, i) {
             return false;
         }
-        i += 1;
     }
     true
 }

@@ -1,5 +1,4 @@
--- `spaces::accesses_ok` meets its contract. Assumes nothing.
-use Prim.Native.Nat.{◌-◌}
+-- What the loop of `spaces::accesses_ok` keeps. Assumes nothing.
 use Rattle.basis.specs.Lists.{pieces}
 use Rattle.basis.specs.Sizes.{space_size}
 use Rattle.scans.specs.Tests.{Passing}
@@ -8,6 +7,3 @@ use Rattle.spaces.proofs.accesses_ok.Given as goal
 
 abbrev pub invariant-loop-i : goal.invariant-loop-i
 invariant-loop-i l = Passing access_ok (pieces l.n space_size l.spaces) 0 l.i
-
-abbrev pub decreases-loop-i : goal.decreases-loop-i
-decreases-loop-i l = l.n - l.i

@@ -10,4 +10,4 @@ drop_rows-requires c = (holds_section space_shape _ _ _ c.requires, omega arith,
 
 pub returns : goal.returns
 returns c =
-    holds_keep space_shape _ _ _ c.requires _ _ (lacks_number _) _ _ c.drop_rows.ensures
+    holds_keep space_shape _ _ _ c.requires _ _ (lacks_number _) _ _ (rw c.from.ensures at c.drop_rows.ensures)

@@ -8,4 +8,4 @@ pub place-requires : goal.place-requires
 place-requires c = (holds_room space_shape _ _ _ c.requires.0, c.requires.0.few, c.requires.1)
 
 pub returns : goal.returns
-returns c = open_is _ _ _ _ c.place.ensures
+returns c = open_is _ _ _ _ c.place.ensures c.is_some.ensures

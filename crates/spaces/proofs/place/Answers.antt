@@ -1,20 +1,20 @@
 -- `spaces::place` meets its contract. Assumes nothing.
-use mathlib.Core.Path.{refl, sym, ◌∙◌}
+use mathlib.Core.Path.{refl, sym, ap, ◌∙◌}
+use borrow.Author.Tests.{le-ltb}
+use Rattle.basis.specs.Choice.{given}
+use Prim.Native.Nat.{◌≤◌}
 use native.Mathlib.Omega.{arith}
-use Rattle.spaces.specs.SearchLaws.{among_all, reach_yes, reach_no, place_here, among_high, among_low, among_other, among_none}
+use Rattle.spaces.specs.SearchLaws.{among_all, reach_yes, reach_no, among_high, among_low, none_left, one_left}
 use Rattle.spaces.proofs.place.Goals as goal
+use Rattle.spaces.proofs.place.Goals.{then-low-n, else-low-n}
 
 -- one space
 pub number_at-requires : goal.number_at-requires
 number_at-requires c = (c.requires.0, omega (arith, c.if-n-eq1.true))
 
-pub returns-then-number_at-number : goal.returns-then-number_at-number
-returns-then-number_at-number c =
-    place_here _ _ _ c.requires.2 0 (omega (arith, c.if-n-eq1.true)) (sym c.number_at.ensures ∙ c.if-number_at-number.true)
-
 pub returns-then-n-eq1 : goal.returns-then-n-eq1
 returns-then-n-eq1 c =
-    among_other _ _ _ c.requires.2 0 1 (among_all _ _ _ 1 (omega (arith, c.if-n-eq1.true)) (omega arith)) (omega arith) (omega (arith, c.if-n-eq1.true)) (λ e. c.if-number_at-number.false (c.number_at.ensures ∙ e))
+    one_left _ _ _ c.requires.2 0 1 _ _ (among_all _ _ _ 1 (omega (arith, c.if-n-eq1.true)) (omega arith)) (omega arith) (omega (arith, c.if-n-eq1.true)) c.number_at.ensures c.then_some.ensures
 
 -- halving
 pub loop-left-init : goal.loop-left-init
@@ -43,17 +43,10 @@ pub loop-left-preserved : goal.loop-left-preserved
 loop-left-preserved c =
     among_low _ _ _ c.requires.2 _ _ _ c.loop-left.invariant c.loop-left-test.true refl (reach_no _ _ _ _ (sym c.reaches.ensures ∙ c.if-reaches.false))
 
-pub returns-then-n-low : goal.returns-then-n-low
-returns-then-n-low c =
-    among_none _ _ _ c.requires.2 _ _ c.loop-left.invariant c.if-n-low.true
-
-pub number_at-requires-2 : goal.number_at-requires-2
-number_at-requires-2 c = (c.requires.0, omega (arith, c.if-n-low.false))
-
-pub returns-then-number_at-number-2 : goal.returns-then-number_at-number-2
-returns-then-number_at-number-2 c =
-    place_here _ _ _ c.requires.2 _ (omega (arith, c.if-n-low.false)) (sym c.number_at-2.ensures ∙ c.if-number_at-number-2.true)
-
 pub returns : goal.returns
 returns c =
-    among_other _ _ _ c.requires.2 _ _ c.loop-left.invariant (omega (arith, c.loop-left-test.false)) (omega (arith, c.if-n-low.false)) (λ e. c.if-number_at-number-2.false (c.number_at-2.ensures ∙ e))
+    let few : c.loop-left.left ≤ 1 = omega (arith, c.loop-left-test.false) in
+    elim c.if-low-n.branch [
+      | then-low-n w ↦ one_left _ _ _ c.requires.2 _ _ _ _ c.loop-left.invariant few w.if-low-n.true w.number_at-then-low-n.ensures (rw w.then_some-is at c.then_some-2.ensures)
+      | else-low-n w ↦ let h = w.then_some-is in let g = w.if-low-n.false in ap given c.then_some-2.ensures ∙ (rw (h, le-ltb _ _ g) (none_left _ _ _ c.requires.2 _ _ c.loop-left.invariant g))
+    ]

@@ -1,16 +1,11 @@
 -- `spaces::reaches` meets its contract. Assumes nothing.
-use Prim.Native.Nat.{◌<◌}
-use native.Mathlib.Omega.{arith}
+use mathlib.Core.Path.{◌∙◌}
+use borrow.Author.Tests.{le-ltb}
 use Rattle.spaces.specs.SearchLaws.{reach_past, reach_number}
 use Rattle.spaces.proofs.reaches.Goals as goal
 
-pub returns-then-n-i : goal.returns-then-n-i
-returns-then-n-i c = reach_past _ _ _ _ c.if-n-i.true
+pub returns-then-i-n : goal.returns-then-i-n
+returns-then-i-n c = reach_number _ _ _ _ _ c.number_at.ensures c.if-i-n.true
 
-pub number_at-requires : goal.number_at-requires
-number_at-requires c = (c.requires, omega (arith, c.if-n-i.false))
-
-pub returns : goal.returns
-returns c =
-    let there : c.args.i < c.args.n = omega (arith, c.if-n-i.false) in
-    reach_number _ _ _ _ _ c.number_at.ensures there
+pub returns-else-i-n : goal.returns-else-i-n
+returns-else-i-n c = le-ltb _ _ c.if-i-n.false ∙ reach_past _ _ _ _ c.if-i-n.false
