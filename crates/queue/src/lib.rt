@@ -37,7 +37,7 @@ pub fn body_length(waiting: &[u8], i: usize) -> usize
     requires { HasRows waiting_size waiting.now (i + 1) }
     ensures { (result ≡ body_size waiting.now i) × (result < 256 ^ length_width) }
 {
-    words::word2(waiting, i * ROW + words::WAITING_LENGTH_AT) as usize
+    usize::from(words::word2(waiting, i * ROW + words::WAITING_LENGTH_AT))
 }
 
 // Host and process of the waiting statement at index i.
@@ -90,7 +90,7 @@ pub fn drop_host(waiting: &mut [u8], n: usize, host: u8) -> usize
         n,
         words::WAITING_BODY_AT,
         words::HOST_WIDTH,
-        host as u32,
+        u32::from(host),
     )
 }
 
@@ -105,7 +105,7 @@ pub fn process_waits(waiting: &[u8], n: usize, process: u16) -> bool
         n,
         words::WAITING_BODY_AT + words::PROCESS_AT,
         words::PROCESS_WIDTH,
-        process as u32,
+        u32::from(process),
     ) < n
 }
 
@@ -138,10 +138,7 @@ pub fn body_fits(waiting: &[u8], n: usize, i: usize) -> bool
     ensures { result ≡ body_fits (get_or (pieces n waiting_size waiting.now) i []) }
 {
     let len = body_length(waiting, i);
-    if words::MOST_BODY < len {
-        return false;
-    }
-    spans::zero_run(waiting, body_at(i) + len, words::MOST_BODY - len)
+    len <= words::MOST_BODY && spans::zero_run(waiting, body_at(i) + len, words::MOST_BODY - len)
 }
 
 // "All unused bytes are zero": those past n rows.
