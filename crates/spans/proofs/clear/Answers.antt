@@ -2,7 +2,7 @@
 use Rattle.std.proofs.Common.{◌≡◌, ◌∙◌, ◌+◌, ◌-◌, ◌≤◌, arith, length, take, drop, length-drop, length-take-le, take_all, sym, ap}
 use Rattle.basis.specs.Lists.{zeros}
 use Rattle.basis.specs.PadLaws.{zeros_length}
-use Rattle.spans.proofs.Stores.{stored}
+use Rattle.words.specs.OverLaws.{over_slice}
 use Rattle.spans.proofs.clear.Goals as goal
 
 pub returns : goal.returns
@@ -12,4 +12,4 @@ returns c =
     let few : length (zeros a.n) ≤ a.n = omega (arith, zeros_length a.n) in
     let fits : a.at + a.n - a.at ≤ length (drop a.at a.a.now) = simp length-drop (omega arith) in
     let long : length (take (a.at + a.n - a.at) (drop a.at a.a.now)) ≡ a.n = length-take-le _ _ fits ∙ omega arith in
-    stored a.a.now a.at _ _ (zeros a.n) a.n (omega arith) (omega (arith, zeros_length a.n)) (c.fill.ensures.after (λ y e. e) ∙ (ap zeros long ∙ sym (take_all a.n (zeros a.n) few)))
+    over_slice a.a.now a.at _ _ (zeros a.n) a.n (omega arith) (omega (arith, zeros_length a.n)) (c.fill.ensures.after (λ y e. e) ∙ (ap zeros long ∙ sym (take_all a.n (zeros a.n) few)))

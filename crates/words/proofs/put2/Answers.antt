@@ -1,11 +1,12 @@
 -- `words::put2` meets its contract. Assumes nothing.
-use native.Mathlib.Omega.{arith}
-use lib.ListN.{length-set}
-use Rattle.words.proofs.Stores.{stored_2}
+use Rattle.std.proofs.Common.{◌∙◌, arith}
+use Rattle.basis.specs.Numbers.{big_endian}
+use Rattle.basis.specs.NumberLaws.{big_endian_length}
+use Rattle.words.specs.OverLaws.{over_slice}
 use Rattle.words.proofs.put2.Goals as goal
 
-pub bounds-d-at-2 : goal.bounds-d-at-2
-bounds-d-at-2 c = simp length-set (omega arith)
-
 pub returns : goal.returns
-returns c = stored_2 c.args.d.now c.args.at c.args.n (omega arith) (omega arith)
+unfolding big_endian
+returns c =
+    let a = c.args in
+    over_slice a.d.now a.at _ _ (big_endian 2 a.n) 2 (omega arith) (omega (arith, big_endian_length 2 a.n)) (c.copy_from_slice.ensures.after ∙ c.to_be_bytes.ensures)

@@ -1,17 +1,14 @@
 -- `words::put4` meets its contract. Assumes nothing.
-use native.Mathlib.Omega.{arith}
-use lib.ListN.{length-set}
-use Rattle.words.proofs.Stores.{stored_4}
+use Rattle.std.proofs.Common.{◌≡◌, ◌∙◌, ◌/◌, arith}
+use Rattle.basis.specs.Numbers.{big_endian}
+use Rattle.basis.specs.NumberLaws.{big_endian_length}
+use Rattle.words.specs.OverLaws.{over_slice}
 use Rattle.words.proofs.put4.Goals as goal
 
-pub bounds-d-at-2 : goal.bounds-d-at-2
-bounds-d-at-2 c = simp length-set (omega arith)
-
-pub bounds-d-at-3 : goal.bounds-d-at-3
-bounds-d-at-3 c = simp length-set (omega arith)
-
-pub bounds-d-at-4 : goal.bounds-d-at-4
-bounds-d-at-4 c = simp length-set (omega arith)
-
 pub returns : goal.returns
-returns c = stored_4 c.args.d.now c.args.at c.args.n (omega arith) (omega arith)
+unfolding big_endian
+returns c =
+    let a = c.args in
+    let high : a.n / 256 / 256 / 256 ≡ a.n / 16777216 = omega arith in
+    let next : a.n / 256 / 256 ≡ a.n / 65536 = omega arith in
+    over_slice a.d.now a.at _ _ (big_endian 4 a.n) 4 (omega arith) (omega (arith, big_endian_length 4 a.n)) (c.copy_from_slice.ensures.after ∙ (c.to_be_bytes.ensures ∙ rw (high, next)))
