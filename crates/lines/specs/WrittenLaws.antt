@@ -1,8 +1,12 @@
 -- The laws of what the writers of lines leave, read at an index of the replies, and the size of a reply. Assumes nothing.
-use Rattle.std.specs.Prelude.{◌≡◌, refl, ℕ, ◌+◌, ◌*◌, ◌≤◌, ◌<◌, List, [], ◌∷◌, ◌++◌, length, get_or, take, drop, set}
+use Rattle.std.specs.Prelude.{◌≡◌, refl, ℕ, ◌+◌, ◌*◌, ◌≤◌, ◌<◌, Bool, true, false, leb, List, [], ◌∷◌, ◌++◌, length, get_or, take, drop, set}
 use Rattle.std.proofs.Common.{sym, ap, ◌∙◌, length-drop, get_or-drop, drop-drop}
 use native.Mathlib.Omega.{arith}
 use borrow.Author.Tests.{le-leb, lt-leb}
+use Rattle.std.proofs.Math.Option.{none}
+use Rattle.std.specs.Prelude as code
+use Rattle.std.specs.Bool.{then_some}
+use Rattle.basis.specs.Choice.{provided, given}
 use Rattle.basis.specs.Numbers.{number, number_at}
 use Rattle.basis.specs.Sizes.{position_width, process_width, bits_width, positions, reply_position_at, reply_host_at, reply_process_at, reply_outcome_at, reply_branch_at, reply_count_at, reply_header_size, reply_kind_at, reply_bits_at, reply_value_size}
 use Rattle.words.specs.Over.{over}
@@ -94,16 +98,15 @@ refused_put d e f n r room l small p q =
 -- ---- the size of a reply
 
 module _ (l : List ℕ) (from n : ℕ) where
-  pub size_none : n < reply_header_size → 0 ≡ size_at l from n
+  pub size_none : n < reply_header_size → none ≡ size_at l from n
   unfolding size_at
   size_none h = rw (lt-leb reply_header_size n h)
 
-  pub size_cut : (k : ℕ) → k ≡ get_or l (from + reply_count_at) 0 → reply_header_size ≤ n → n < reply_header_size + reply_value_size * k → 0 ≡ size_at l from n
-  unfolding size_at
-  size_cut k e h f = rw (← e, le-leb reply_header_size n h, lt-leb (reply_header_size + reply_value_size * k) n f)
-
-  pub size_whole : (k : ℕ) → k ≡ get_or l (from + reply_count_at) 0 → reply_header_size + reply_value_size * k ≤ n → reply_header_size + reply_value_size * k ≡ size_at l from n
-  unfolding size_at
-  size_whole k e f =
-      let h : reply_header_size ≤ n = omega arith in
-      rw (← e, le-leb reply_header_size n h, le-leb (reply_header_size + reply_value_size * k) n f)
+  pub size_whole : (k : ℕ) (o : code.Option ℕ) → k ≡ get_or l (from + reply_count_at) 0 → reply_header_size ≤ n
+      → o ≡ then_some (leb (reply_header_size + reply_value_size * k) n) (reply_header_size + reply_value_size * k) → given o ≡ size_at l from n
+  unfolding size_at provided
+  size_whole k o e h f = ap given f ∙ rw (← e, le-leb reply_header_size n h) (go (leb (reply_header_size + reply_value_size * k) n))
+    where
+      go : (t : Bool) → given (then_some t (reply_header_size + reply_value_size * k)) ≡ provided t (reply_header_size + reply_value_size * k)
+      go true = refl
+      go false = refl

@@ -2,6 +2,7 @@
 #![tactic(auto)]
 
 ghost use Rattle.std.specs.Prelude.{◌≡◌, List, ◌+◌, ◌*◌, ◌-◌, ◌≤◌, ◌<◌, length, take, drop};
+ghost use Rattle.basis.specs.Choice.{given};
 ghost use Rattle.basis.specs.Sizes.{reply_header_size, reply_value_size};
 ghost use Rattle.model.specs.Run.{Reply};
 ghost use Rattle.io.specs.Counts.{IsPrefixLen};
@@ -42,10 +43,8 @@ fn put_values(out: &mut [u8], at: usize, replies: &[u8], from: usize, count: usi
     ensures upper_bound { result ≤ at + value_room * count }
 {
     let mut end = at;
-    let mut i = 0;
-    while i < count {
+    for i in 0..count {
         end = put_value(out, end, replies, from + words::REPLY_VALUE * i);
-        i += 1;
     }
     end
 }
@@ -66,7 +65,7 @@ fn put_source(out: &mut [u8], at: usize, replies: &[u8], from: usize) -> usize
         out,
         process_at,
         b' ',
-        words::word2(replies, from + words::REPLY_PROCESS_AT) as u32,
+        u32::from(words::word2(replies, from + words::REPLY_PROCESS_AT)),
     )
 }
 
@@ -101,21 +100,18 @@ fn put_line(out: &mut [u8], at: usize, replies: &[u8], from: usize) -> usize
 
 // ---- the lines
 
-// The size of the reply that stands at index from of n bytes, 0 where none stands there whole.
-fn reply_size(replies: &[u8], from: usize, n: usize) -> usize
+// The size of the reply that stands whole at index from of n bytes.
+fn reply_size(replies: &[u8], from: usize, n: usize) -> Option<usize>
     requires { (from ≤ n) × (n ≤ length replies.now) }
-    ensures value { result ≡ size_at replies.now from (n - from) }
-    ensures result_bound { from + result ≤ n }
+    ensures { given result ≡ size_at replies.now from (n - from) }
 {
-    if n - from < words::REPLY_HEADER {
-        return 0;
+    let left = n - from;
+    if left < words::REPLY_HEADER {
+        return None;
     }
     let size = words::REPLY_HEADER
         + words::REPLY_VALUE * words::size(replies[from + words::REPLY_COUNT_AT]);
-    if n - from < size {
-        return 0;
-    }
-    size
+    (size <= left).then_some(size)
 }
 
 // The lines of the replies that n bytes are, and their length.
@@ -127,11 +123,9 @@ fn put_lines(out: &mut [u8], replies: &[u8], n: usize) -> usize
 {
     let mut from = 0;
     let mut at = 0;
-    let mut size = reply_size(replies, from, n);
-    while size > 0 {
+    while let Some(size) = reply_size(replies, from, n) {
         at = put_line(out, at, replies, from);
         from += size;
-        size = reply_size(replies, from, n);
     }
     at
 }
@@ -143,10 +137,7 @@ pub fn lines(replies: &[u8], n: usize, out: &mut [u8]) -> usize
     ensures out_after { (rs : List Reply) → Given rs replies.now n → growth * n ≤ length out.old → take result out.new ≡ lines_of rs }
     ensures out_unchanged { drop result out.new ≡ drop result out.old }
 {
-    if replies.len() < n {
-        return 0;
-    }
-    if out.len() / GROWTH < n {
+    if replies.len() < n || out.len() / GROWTH < n {
         return 0;
     }
     put_lines(out, replies, n)

@@ -52,9 +52,8 @@ fn put_values(
     ensures { PutValues (bound_to variables bound kinds bits) out.old out.new result }
 {
     let mut count = 0;
-    let mut x = 0;
-    while x < words::VARIABLES {
-        if bound[x] {
+    for (x, &is_bound) in bound.iter().enumerate() {
+        if is_bound {
             put_value(
                 out,
                 words::REPLY_HEADER + count * words::REPLY_VALUE,
@@ -64,7 +63,6 @@ fn put_values(
             );
             count += 1;
         }
-        x += 1;
     }
     count
 }

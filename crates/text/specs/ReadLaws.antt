@@ -2,6 +2,8 @@
 use Rattle.std.specs.Prelude.{◌≡◌, refl, ℕ, zero, suc, ◌+◌, ◌*◌, ◌≤◌, ◌<◌, length, get_or, drop}
 use Rattle.std.proofs.Common.{sym, ap, ◌∙◌, add-one, arith, drop-drop, get_or-drop, le-leb}
 use mathlib.Core.List.{List, [], ◌∷◌, ◌++◌, map, flat_map, append_assoc, append-nil}
+use Rattle.std.proofs.Math.Option.{some}
+use Rattle.basis.specs.Choice.{provided}
 use Rattle.basis.specs.Numbers.{big_endian, number_at}
 use Rattle.basis.specs.NumberLaws.{number_big_endian}
 use Rattle.basis.specs.Sizes.{position_width, process_width, positions, processes, reply_position_at, reply_host_at, reply_process_at, reply_count_at, reply_header_size, reply_value_size}
@@ -109,11 +111,11 @@ unfolding reply_bytes big_endian
 count_back r more = refl
 
 -- and as of its size
-pub size_back : (l : List ℕ) (from n : ℕ) (r : Reply) (more : List ℕ) → drop from l ≡ reply_bytes r ++ more → length (reply_bytes r) ≤ n → size_at l from n ≡ length (reply_bytes r)
-unfolding size_at
+pub size_back : (l : List ℕ) (from n : ℕ) (r : Reply) (more : List ℕ) → drop from l ≡ reply_bytes r ++ more → length (reply_bytes r) ≤ n → size_at l from n ≡ some (length (reply_bytes r))
+unfolding size_at provided
 size_back l from n r more p h =
     let size : ℕ = reply_header_size + reply_value_size * length r.values in
     let e : length (reply_bytes r) ≡ size = reply_length r in
     let fits : size ≤ n = omega arith in
     let count : get_or l (from + reply_count_at) 0 ≡ length r.values = sym (get_or-drop from l reply_count_at 0) ∙ ap (λ (k : List ℕ). get_or k reply_count_at 0) p ∙ count_back r more in
-    rw (count, le-leb reply_header_size n (omega arith), le-leb size n fits) (sym e)
+    rw (count, le-leb reply_header_size n (omega arith), le-leb size n fits, e)

@@ -1,6 +1,8 @@
 -- Text read off the bytes of replies, and the room that it is given. Assumes nothing.
 use Rattle.std.specs.Prelude.{◌≡◌, ℕ, zero, suc, ◌+◌, ◌*◌, ◌≤◌, ◌<◌, cond, length, get_or, take, drop, leb}
 use mathlib.Core.List.{List, [], ◌∷◌, ◌++◌, flat_map}
+use Rattle.std.proofs.Math.Option.{Option, none}
+use Rattle.basis.specs.Choice.{provided}
 use Rattle.basis.specs.Numbers.{number_at}
 use Rattle.basis.specs.ListLaws.{Each}
 use Rattle.basis.specs.Sizes.{position_width, process_width, bits_width, positions, processes, reply_position_at, reply_host_at, reply_process_at, reply_outcome_at, reply_branch_at, reply_count_at, reply_header_size, reply_kind_at, reply_bits_at, reply_value_size}
@@ -37,9 +39,9 @@ line_in l = head_in l ++ (values_in (get_or l reply_count_at 0) (drop reply_head
 abbrev pub span_at : List ℕ → ℕ → ℕ
 span_at l from = reply_header_size + reply_value_size * get_or l (from + reply_count_at) 0
 
--- 0 where n bytes have no whole one
-unfoldable pub size_at : List ℕ → (from n : ℕ) → ℕ
-size_at l from n = cond (leb reply_header_size n) (cond (leb (span_at l from) n) (span_at l from) 0) 0
+-- none where n bytes have no whole one
+unfoldable pub size_at : List ℕ → (from n : ℕ) → Option ℕ
+size_at l from n = cond (leb reply_header_size n) (provided (leb (span_at l from) n) (span_at l from)) none
 
 -- ---- room
 

@@ -5,14 +5,12 @@ use Rattle.lines.proofs.put_values.Goals as goal
 
 pub loop-i-init : goal.loop-i-init
 loop-i-init c = record {
-  within = omega arith;
   room = omega arith;
   written = values_none c.args.replies.now c.args.out.now c.args.from c.args.at;
 }
 
 pub loop-i-preserved : goal.loop-i-preserved
 loop-i-preserved c = record {
-  within = omega arith;
   room = omega arith;
   written = values_next c.args.replies.now c.args.out.now c.loop-i.out c.put_value-end.new.out c.args.from c.loop-i.i c.args.at c.loop-i.end c.put_value-end.result (omega arith) c.loop-i.invariant.written c.put_value-end.ensures.put;
 }
