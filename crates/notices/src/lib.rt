@@ -19,7 +19,7 @@ fn failure_tuple(host: u8, monitor: u32) -> [u8; words::TUPLE]
     let mut tuple = tuples::begin_entry(0, words::FAILURE_FIELDS);
     tuples::put_value(&mut tuple, 0, values::NAME, 1);
     tuples::put_value(&mut tuple, 1, values::WHOLE, monitor);
-    tuples::put_value(&mut tuple, 2, values::WHOLE, host as u32);
+    tuples::put_value(&mut tuple, 2, values::WHOLE, u32::from(host));
     tuple
 }
 
@@ -101,10 +101,8 @@ pub fn crash(state: &mut [u8], host: u8)
 {
     state::drop_host(state, host);
     let monitors = header::monitors(state);
-    let mut m = 0;
-    while m < monitors {
+    for m in 0..monitors {
         notify(state, m + 1, host);
-        m += 1;
     }
 }
 
@@ -115,14 +113,10 @@ fn lay_one(state: &mut [u8], monitor: usize, host: u8)
     requires { IsStored state.old × IsPair (decode state.old) monitor host }
     ensures { Stored state.new (laid_one (decode state.old) monitor host) }
 {
-    if !is_owed(state, monitor, host) {
-        return;
+    if is_owed(state, monitor, host) && has_room(state) {
+        strike(state, monitor, host);
+        notice(state, monitor, host);
     }
-    if !has_room(state) {
-        return;
-    }
-    strike(state, monitor, host);
-    notice(state, monitor, host);
 }
 
 // Of one monitor number, the lowest host first.
@@ -130,10 +124,8 @@ fn lay_for(state: &mut [u8], monitor: usize)
     requires { IsStored state.old × IsPair (decode state.old) monitor 0 }
     ensures { Stored state.new (laid_for (decode state.old) monitor) }
 {
-    let mut host = 0;
-    while host < words::HOSTS {
+    for host in 0..words::HOSTS {
         lay_one(state, monitor, host);
-        host += 1;
     }
 }
 
@@ -143,10 +135,8 @@ fn lay_all(state: &mut [u8])
     ensures { Stored state.new (laid (decode state.old)) }
 {
     let monitors = header::monitors(state);
-    let mut m = 0;
-    while m < monitors {
+    for m in 0..monitors {
         lay_for(state, m + 1);
-        m += 1;
     }
 }
 
@@ -155,11 +145,7 @@ pub fn lay(state: &mut [u8])
     requires { IsStored state.old }
     ensures { Stored state.new (laid (decode state.old)) }
 {
-    if !has_room(state) {
-        return;
+    if has_room(state) && !header::owes_nothing(state) {
+        lay_all(state);
     }
-    if header::owes_nothing(state) {
-        return;
-    }
-    lay_all(state);
 }

@@ -2,13 +2,11 @@
 use mathlib.Core.Path.{sym, ◌∙◌}
 use Rattle.notices.specs.Walks.{full_laid, nothing_laid}
 use Rattle.notices.proofs.lay.Goals as goal
+use Rattle.notices.proofs.lay.Goals.{else-has_room-via-then-has_room+else-not-owes_nothing, else-has_room-via-else-has_room}
 
-pub returns-then-not-has_room : goal.returns-then-not-has_room
-returns-then-not-has_room c = full_laid _ c.requires (sym c.has_room.ensures ∙ c.if-not-has_room.true)
-
-pub returns-then-owes_nothing : goal.returns-then-owes_nothing
-returns-then-owes_nothing c =
-    nothing_laid _ c.requires (sym c.owes_nothing.ensures ∙ c.if-owes_nothing.true)
-
-pub returns : goal.returns
-returns c = c.lay_all.ensures
+pub returns-else-has_room : goal.returns-else-has_room
+returns-else-has_room c =
+    elim c.else-has_room.branch [
+      | else-has_room-via-then-has_room+else-not-owes_nothing w ↦ nothing_laid _ c.requires (sym w.owes_nothing.ensures ∙ w.if-not-owes_nothing.false)
+      | else-has_room-via-else-has_room w ↦ full_laid _ c.requires (sym c.has_room.ensures ∙ w.if-has_room.false)
+    ]
