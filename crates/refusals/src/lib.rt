@@ -61,12 +61,10 @@ fn some_waiting_names(waiting: &[u8], n: usize, spaces: &[u8], m: usize, space: 
     requires { IsQueued waiting.now n × IsListed spaces.now m × Rising (spaces_of spaces.now m) }
     ensures { result ≡ any (naming space) (waiting_of waiting.now n) }
 {
-    let mut i = 0;
-    while i < n {
+    for i in 0..n {
         if waiting_names(waiting, n, i, spaces, m, space) {
             return true;
         }
-        i += 1;
     }
     false
 }
