@@ -1,5 +1,5 @@
 -- The tuple that an out makes: its values, and its bytes one value after the other. Assumes nothing.
-use Rattle.std.specs.Prelude.{◌≡◌, ◌⊎◌, Bool, true, length, drop, T}
+use Rattle.std.specs.Prelude.{◌≡◌, ◌⊎◌, Bool, true, length, drop, T, Some}
 use Rattle.std.proofs.Math.Path.{refl, sym, ap}
 use Rattle.std.proofs.Common.{subst, ◌∙◌, inl, inr}
 use Prim.Native.Nat.{ℕ, zero, suc, ◌+◌, ◌<◌}
@@ -7,13 +7,15 @@ use Rattle.std.proofs.Math.Bool.{false}
 use Rattle.std.proofs.Math.Option.{Option, none, some, map}
 use mathlib.Core.List.{List, [], ◌∷◌, ◌++◌, append_assoc, append-nil}
 use Rattle.std.proofs.Math.ListN.{length-append}
-use Rattle.basis.specs.Choice.{maybe, provided}
+use Rattle.basis.specs.Choice.{maybe}
 use Rattle.basis.specs.Sizes.{most_fields}
 use Rattle.model.specs.Value.{Value, value, legal_value}
 use Rattle.model.specs.Statement as Model
 use Rattle.model.specs.Statement.{sum, difference}
 use Rattle.model.specs.Matching.{Tuple, Bindings, value_of}
 use Rattle.model.specs.Execution.{made, made_all}
+use Rattle.values.specs.declared.Scalar.{Scalar}
+use Rattle.values.specs.Meaning.{scalar_is, scalar_given}
 use Rattle.sums.specs.Meaning.{sum_of}
 use Rattle.statements.specs.declared.Field.{Field}
 use Rattle.statements.specs.Flat.{field_of, field_is}
@@ -22,10 +24,6 @@ use Rattle.tuples.specs.Entry.{begun, with_value}
 use Rattle.tuples.specs.EntryLaws.{begun_more, begun_all}
 
 -- ---- one field
-
--- a value that is given, if one is
-abbrev pub given_is : (kind : ℕ) (given : Bool) (bits : ℕ) → Option Value
-given_is k g n = provided g (value k n)
 
 -- a variable and a value that have sums: both are legal at the value's kind
 abbrev pub Summable : Bindings → ℕ → Value → Type 0
@@ -40,23 +38,20 @@ module _ (bs : Bindings) (x : ℕ) (v : Value) (k n : ℕ) (held : value k n ≡
   pub operands : Summable bs x v → T (legal_value (value v.kind n)) × T (legal_value v)
   operands h = (subst (λ (u : Value). T (legal_value (value v.kind u.bits))) (sym held) h.0, h.1)
 
-  pub sum_given : (subtract : Bool) (u : Value) (k' n' : ℕ) → some u ≡ sum_of subtract v.kind n v.bits → k' ≡ u.kind → n' ≡ u.bits
-      → given_is k' true n' ≡ sum_of subtract v.kind (value_of bs x).bits v.bits
-  unfolding provided
-  sum_given subtract u k' n' e p q = rw (p, q) (e ∙ ap (λ (u : Value). sum_of subtract v.kind u.bits v.bits) held)
+  pub sum_given : (subtract : Bool) (u : Value) (s : Scalar) → some u ≡ sum_of subtract v.kind n v.bits → scalar_is s ≡ u → scalar_given (Some s) ≡ sum_of subtract v.kind (value_of bs x).bits v.bits
+  sum_given subtract u s e p = rw p (e ∙ ap (λ (u : Value). sum_of subtract v.kind u.bits v.bits) held)
 
-  pub sum_refused : (subtract : Bool) → none ≡ sum_of subtract v.kind n v.bits → given_is 0 false 0 ≡ sum_of subtract v.kind (value_of bs x).bits v.bits
-  unfolding provided
+  pub sum_refused : (subtract : Bool) → none ≡ sum_of subtract v.kind n v.bits → none ≡ sum_of subtract v.kind (value_of bs x).bits v.bits
   sum_refused subtract e = e ∙ ap (λ (u : Value). sum_of subtract v.kind u.bits v.bits) held
 
 module _ (bs : Bindings) (f : Field) where
-  pub made_actual : f.form ≡ 0 → given_is f.kind true f.bits ≡ made bs (field_is f)
-  unfolding field_is field_of made provided
+  pub made_actual : f.form ≡ 0 → some (value f.kind f.bits) ≡ made bs (field_is f)
+  unfolding field_is field_of made
   made_actual e = rw e
 
-  pub made_reference : f.form ≡ 2 → (k n : ℕ) (g : Bool) → (value k n ≡ value_of bs f.variable) × (g ≡ true) → given_is k g n ≡ made bs (field_is f)
-  unfolding field_is field_of made provided
-  made_reference e k n g h = rw (h.1, e) (ap (λ (v : Value). some v) h.0)
+  pub made_reference : f.form ≡ 2 → (v : Value) → v ≡ value_of bs f.variable → some v ≡ made bs (field_is f)
+  unfolding field_is field_of made
+  made_reference e v h = rw (h, e)
 
   pub made_sum : f.form ≡ 3 → sum_of false f.kind (value_of bs f.variable).bits f.bits ≡ made bs (field_is f)
   unfolding field_is field_of made
@@ -66,11 +61,11 @@ module _ (bs : Bindings) (f : Field) where
   unfolding field_is field_of made
   made_difference e = rw e
 
-  pub made_other : (f.form ≡ 0 → ⊥) → (f.form ≡ 2 → ⊥) → (f.form ≡ 3 → ⊥) → (f.form ≡ 4 → ⊥) → given_is 0 false 0 ≡ made bs (field_is f)
-  unfolding field_is field_of made provided
+  pub made_other : (f.form ≡ 0 → ⊥) → (f.form ≡ 2 → ⊥) → (f.form ≡ 3 → ⊥) → (f.form ≡ 4 → ⊥) → none ≡ made bs (field_is f)
+  unfolding field_is field_of made
   made_other a b c d = go f.form refl a b c d
     where
-      go : (n : ℕ) → f.form ≡ n → (n ≡ 0 → ⊥) → (n ≡ 2 → ⊥) → (n ≡ 3 → ⊥) → (n ≡ 4 → ⊥) → given_is 0 false 0 ≡ made bs (field_is f)
+      go : (n : ℕ) → f.form ≡ n → (n ≡ 0 → ⊥) → (n ≡ 2 → ⊥) → (n ≡ 3 → ⊥) → (n ≡ 4 → ⊥) → none ≡ made bs (field_is f)
       go zero e a b c d = absurd (a refl)
       go (suc zero) e a b c d = rw e
       go (suc (suc zero)) e a b c d = absurd (b refl)
@@ -116,12 +111,12 @@ module _ (bs : Bindings) (s : ℕ) (fs : List Model.Field) (n : ℕ) where
   pub making_none : (tuple : List ℕ) → tuple ≡ begun s n [] → Making bs s fs n 0 tuple
   making_none tuple e = record { front = []; count = refl; bytes = e; rest = rest_none (made_all bs fs) }
 
-  pub making_more : (j : ℕ) (tuple tuple' : List ℕ) (f : Model.Field) (k b : ℕ) (g : Bool) → Making bs s fs n j tuple → j < most_fields → drop j fs ≡ f ∷ drop (j + 1) fs
-      → given_is k g b ≡ made bs f → g ≡ true → tuple' ≡ with_value j (value k b) tuple → Making bs s fs n (j + 1) tuple'
-  unfolding made_all provided
-  making_more j tuple tuple' f k b g m few d e t q =
-      let v : Value = value k b in
-      let gives : made bs f ≡ some v = sym e ∙ rw t in
+  pub making_more : (j : ℕ) (tuple tuple' : List ℕ) (f : Model.Field) (x : Scalar) → Making bs s fs n j tuple → j < most_fields → drop j fs ≡ f ∷ drop (j + 1) fs
+      → scalar_given (Some x) ≡ made bs f → tuple' ≡ with_value j (scalar_is x) tuple → Making bs s fs n (j + 1) tuple'
+  unfolding made_all
+  making_more j tuple tuple' f x m few d e q =
+      let v : Value = scalar_is x in
+      let gives : made bs f ≡ some v = sym e in
       record {
         front = m.front ++ (v ∷ []);
         count = length-append m.front (v ∷ []) ∙ ap (λ (i : ℕ). i + 1) m.count;
@@ -129,16 +124,15 @@ module _ (bs : Bindings) (s : ℕ) (fs : List Model.Field) (n : ℕ) where
         rest = m.rest ∙ rw (d, gives) (rest_more m.front v (made_all bs (drop (j + 1) fs)));
       }
 
-  pub making_fails : (j : ℕ) (tuple : List ℕ) (f : Model.Field) (k b : ℕ) (g : Bool) → Making bs s fs n j tuple → drop j fs ≡ f ∷ drop (j + 1) fs → given_is k g b ≡ made bs f → g ≡ false
-      → provided false tuple ≡ made_bytes bs s fs
-  unfolding made_bytes made_all provided
-  making_fails j tuple f k b g m d e t =
-      let gives : made bs f ≡ none = sym e ∙ rw t in
+  pub making_fails : (j : ℕ) (tuple : List ℕ) (f : Model.Field) → Making bs s fs n j tuple → drop j fs ≡ f ∷ drop (j + 1) fs → none ≡ made bs f → none ≡ made_bytes bs s fs
+  unfolding made_bytes made_all
+  making_fails j tuple f m d e =
+      let gives : made bs f ≡ none = sym e in
       let all : made_all bs fs ≡ none = m.rest ∙ rw (d, gives) in
       rw all
 
-  pub making_all : (tuple : List ℕ) → Making bs s fs n n tuple → drop n fs ≡ [] → provided true tuple ≡ made_bytes bs s fs
-  unfolding made_bytes made_all provided
+  pub making_all : (tuple : List ℕ) → Making bs s fs n n tuple → drop n fs ≡ [] → some tuple ≡ made_bytes bs s fs
+  unfolding made_bytes made_all
   making_all tuple m d =
       let all : made_all bs fs ≡ some m.front = m.rest ∙ rw (d, append-nil m.front) in
       let whole : tuple ≡ entry_bytes (tuple_of s m.front) = m.bytes ∙ ap (λ (k : ℕ). begun s k m.front) (sym m.count) ∙ begun_all s m.front in

@@ -1,13 +1,14 @@
 // The variables of a branch: what a template asks for with them, what a tuple binds, and the tuple that an out makes.
 #![tactic(auto)]
 
-ghost use Rattle.std.specs.Prelude.{◌≡◌, true, ◌+◌, ◌≤◌, length};
-ghost use Rattle.basis.specs.Choice.{provided};
+ghost use Rattle.std.specs.Prelude.{◌≡◌, ◌+◌, ◌≤◌, length};
+ghost use Rattle.basis.specs.Choice.{given};
 ghost use Rattle.basis.specs.ListLaws.{Each};
 ghost use Rattle.basis.specs.Sizes.{most_fields, tuple_size};
 ghost use Rattle.model.specs.Value.{value};
 ghost use Rattle.model.specs.Matching.{value_of, unbound, template_field, template, bind_field, bind};
 ghost use Rattle.model.specs.Execution.{made};
+ghost use Rattle.values.specs.Meaning.{scalar_is, scalar_given};
 ghost use Rattle.sums.specs.Meaning.{sum_of};
 ghost use Rattle.statements.specs.Flat.{field_is};
 ghost use Rattle.tuples.specs.Section.{tuple_at};
@@ -15,11 +16,11 @@ ghost use Rattle.sections.specs.Rows.{HasRows};
 ghost use Rattle.matching.specs.Meaning.{template_field_is, template_is};
 ghost use Rattle.bindings.specs.Variables.{bindings_of};
 ghost use Rattle.bindings.specs.Fields.{fields_in};
-ghost use Rattle.bindings.specs.Making.{given_is, Summable, CanMake, made_bytes};
+ghost use Rattle.bindings.specs.Making.{Summable, CanMake, made_bytes};
 
 use matching::Template;
 use statements::{Field, Operation};
-use sums::Sum;
+use values::Scalar;
 
 // The variables of a branch: those that are bound, with kind and bits of their values.
 #[derive(Clone, Copy)]
@@ -27,14 +28,6 @@ pub struct Vars {
     pub bound: [bool; words::VARIABLES],
     pub kinds: [u8; words::VARIABLES],
     pub bits: [u32; words::VARIABLES],
-}
-
-// A kind and, where one is given, the bits of a value.
-#[derive(Clone, Copy)]
-struct Sought {
-    pub kind: u8,
-    pub given: bool,
-    pub bits: u32,
 }
 
 // A kind and, where one is given, a range of values; that of one value has its bits twice.
@@ -58,24 +51,19 @@ pub fn no_vars() -> Vars
 }
 
 // A variable's kind and bits; whole 0 where it is not bound.
-fn held(v: Vars, variable: u8) -> Sought
-    ensures { (value result.kind result.bits ≡ value_of (bindings_of v) variable) × (result.given ≡ true) }
+fn held(v: Vars, variable: u8) -> Scalar
+    ensures { scalar_is result ≡ value_of (bindings_of v) variable }
 {
     let x = words::size(variable);
     if x < words::VARIABLES {
         if v.bound[x] {
-            return Sought {
+            return Scalar {
                 kind: v.kinds[x],
-                given: true,
                 bits: v.bits[x],
             };
         }
     }
-    Sought {
-        kind: 0,
-        given: true,
-        bits: 0,
-    }
+    Scalar { kind: 0, bits: 0 }
 }
 
 // What a template's field asks for: forms 0 and 2 one value, form 6 its range, the others any value of the kind.
@@ -116,19 +104,16 @@ pub fn template_of(op: Operation, v: Vars) -> Template
     let mut given = [false; words::MOST_FIELDS];
     let mut lowest = [0u32; words::MOST_FIELDS];
     let mut highest = [0u32; words::MOST_FIELDS];
-    let n = op.count;
-    let mut i = 0;
-    while i < n {
+    for i in 0..op.count {
         let a = asked(op.fields[i], v);
         kinds[i] = a.kind;
         given[i] = a.given;
         lowest[i] = a.lowest;
         highest[i] = a.highest;
-        i += 1;
     }
     Template {
         space: op.from,
-        count: n,
+        count: op.count,
         kinds,
         given,
         lowest,
@@ -158,85 +143,56 @@ pub fn bind_at(tuples: &[u8], i: usize, op: Operation, v: Vars) -> Vars
     ensures { bindings_of result ≡ bind (bindings_of v) (fields_in op) (tuple_at tuples.now i).values }
 {
     let mut w = v;
-    let n = op.count;
-    let mut j = 0;
-    while j < n {
+    for j in 0..op.count {
         w = bind_field(
             w,
             op.fields[j],
             tuples::kind(tuples, i, j),
             tuples::bits(tuples, i, j),
         );
-        j += 1;
     }
     w
 }
 
-// Rule 4: a variable plus, or minus, a field's value; nothing given where the result is "off the range or not finite".
-fn sum_value(f: Field, v: Vars, subtract: bool) -> Sought
+// Rule 4: a variable plus, or minus, a field's value; nothing where the result is "off the range or not finite".
+fn sum_value(f: Field, v: Vars, subtract: bool) -> Option<Scalar>
     requires { Summable (bindings_of v) f.variable (value f.kind f.bits) }
-    ensures { given_is result.kind result.given result.bits ≡ sum_of subtract f.kind (value_of (bindings_of v) f.variable).bits f.bits }
+    ensures { scalar_given result ≡ sum_of subtract f.kind (value_of (bindings_of v) f.variable).bits f.bits }
 {
     let h = held(v, f.variable);
-    match sums::add(f.kind, h.bits, f.bits, subtract) {
-        Sum::Is(x) => Sought {
-            kind: values::kind_of(x),
-            given: true,
-            bits: values::bits_of(x),
-        },
-        Sum::Refused => Sought {
-            kind: 0,
-            given: false,
-            bits: 0,
-        },
-    }
+    let x = sums::add(f.kind, h.bits, f.bits, subtract)?;
+    Some(Scalar {
+        kind: x.kind(),
+        bits: x.bits(),
+    })
 }
 
 // The value of a field of an out.
-fn field_value(f: Field, v: Vars) -> Sought
+fn field_value(f: Field, v: Vars) -> Option<Scalar>
     requires { CanMake (bindings_of v) (field_is f) }
-    ensures { given_is result.kind result.given result.bits ≡ made (bindings_of v) (field_is f) }
+    ensures { scalar_given result ≡ made (bindings_of v) (field_is f) }
 {
-    let form = f.form;
-    match form {
-        0 => Sought {
+    match f.form {
+        0 => Some(Scalar {
             kind: f.kind,
-            given: true,
             bits: f.bits,
-        },
-        2 => held(v, f.variable),
+        }),
+        2 => Some(held(v, f.variable)),
         3 => sum_value(f, v, false),
         4 => sum_value(f, v, true),
-        _ => Sought {
-            kind: 0,
-            given: false,
-            bits: 0,
-        },
+        _ => None,
     }
 }
 
-// An out's tuple, where it can be made: its entry's bytes.
-#[derive(Clone, Copy)]
-pub struct Made {
-    pub ok: bool,
-    pub tuple: [u8; words::TUPLE],
-}
-
-// Rules 3 and 4: the tuple of an out.
-pub fn make_tuple(op: Operation, v: Vars) -> Made
+// Rules 3 and 4: the tuple of an out, where it can be made: its entry's bytes.
+pub fn make_tuple(op: Operation, v: Vars) -> Option<[u8; words::TUPLE]>
     requires { (op.count ≤ most_fields) × Each (CanMake (bindings_of v)) (fields_in op) }
-    ensures { provided result.ok result.tuple ≡ made_bytes (bindings_of v) op.from (fields_in op) }
+    ensures { given result ≡ made_bytes (bindings_of v) op.from (fields_in op) }
 {
-    let n = op.count;
-    let mut tuple = tuples::begin_entry(op.from, n);
-    let mut j = 0;
-    while j < n {
-        let x = field_value(op.fields[j], v);
-        if !x.given {
-            return Made { ok: false, tuple };
-        }
+    let mut tuple = tuples::begin_entry(op.from, op.count);
+    for j in 0..op.count {
+        let x = field_value(op.fields[j], v)?;
         tuples::put_value(&mut tuple, j, x.kind, x.bits);
-        j += 1;
     }
-    Made { ok: true, tuple }
+    Some(tuple)
 }

@@ -10,7 +10,6 @@ ghost use Rattle.statements.specs.Flat.{operation_is};
 ghost use Rattle.tuples.specs.Section.{tuples_of};
 ghost use Rattle.walk.specs.Choosing.{Chooses};
 
-use matching::Found;
 use statements::{Operation, pass_operation, read_operation};
 use walk::{Choice, operations_end};
 
@@ -80,8 +79,5 @@ pub fn holds(tuples: &[u8], n: usize, guard: Operation) -> bool
         return true;
     }
     let template = bindings::template_of(guard, bindings::no_vars());
-    match matching::find(tuples, n, template) {
-        Found::At(_) => true,
-        Found::Nothing => false,
-    }
+    matching::find(tuples, n, template).is_some()
 }

@@ -1,4 +1,6 @@
 -- What the search for a match meets on its way: the conditions field by field, the search tuple by tuple. Assumes nothing.
+use Rattle.std.specs.Prelude as code
+use Rattle.std.specs.Prelude.{None, Some, Ok, Err, is_ok}
 use Rattle.std.specs.Prelude.{◌≡◌, Bool, true, false, ◌&&◌, List, ◌∷◌, length, drop, get_or, eqb}
 use Rattle.std.proofs.Math.Path.{refl, sym}
 use Rattle.std.proofs.Common.{ap, subst, ◌∙◌, drop_of_length-le}
@@ -21,8 +23,8 @@ use Rattle.tuples.specs.SectionLaws.{read_drop}
 use Rattle.tuples.specs.Entry.{value_in, values_from}
 use Rattle.tuples.specs.PlaceLaws.{values_of_lem, from_first, from_next}
 use Rattle.matching.specs.declared.Template.{Template}
-use Rattle.matching.specs.declared.Mismatch.TheVariants.{None, Count, Kinds, Values}
-use Rattle.matching.specs.declared.Found.TheVariants.{At, Nothing}
+use Rattle.matching.specs.declared.Mismatch as answer
+use Rattle.matching.specs.declared.Mismatch.TheVariants.{Count, Kinds, Values}
 use Rattle.matching.specs.Meaning.{template_field_at, template_fields_from, template_is, mismatch_is, found_is}
 
 -- field f of a template, and so many from f on
@@ -109,7 +111,7 @@ module _ (t : Template) (p : List ℕ) (i c : ℕ) (has : c ≡ length (tuple_at
   abbrev pairs : (TemplateField → Value → Bool) → Bool
   pairs test = pairs_from test t p i t.count 0
 
-  pub count_told : (c ≡ t.count → ⊥) → mismatch_is Count ≡ first_mismatch (template_is t) (tuple_at p i)
+  pub count_told : (c ≡ t.count → ⊥) → mismatch_is (Err Count) ≡ first_mismatch (template_is t) (tuple_at p i)
   unfolding mismatch_is first_mismatch same_count
   count_told d = rw (← has, template_length t 0 t.count, ne_eqb c t.count d)
 
@@ -122,15 +124,15 @@ module _ (t : Template) (p : List ℕ) (i c : ℕ) (has : c ≡ length (tuple_at
     unfolding pairs_from
     all_pairs test = rw (values_of_lem p i t.count (sym has ∙ e) few, ← from_first p i t.count, sub-zero t.count)
 
-    pub kinds_told : pairs same_kind ≡ false → mismatch_is Kinds ≡ first_mismatch (template_is t) (tuple_at p i)
+    pub kinds_told : pairs same_kind ≡ false → mismatch_is (Err Kinds) ≡ first_mismatch (template_is t) (tuple_at p i)
     unfolding mismatch_is first_mismatch same_kinds
     kinds_told k = rw (same_count_lem, all_pairs same_kind, k)
 
-    pub values_told : pairs same_kind ≡ true → pairs same_value ≡ false → mismatch_is Values ≡ first_mismatch (template_is t) (tuple_at p i)
+    pub values_told : pairs same_kind ≡ true → pairs same_value ≡ false → mismatch_is (Err Values) ≡ first_mismatch (template_is t) (tuple_at p i)
     unfolding mismatch_is first_mismatch same_kinds same_values
     values_told k v = rw (same_count_lem, all_pairs same_kind, k, all_pairs same_value, v)
 
-    pub none_told : pairs same_kind ≡ true → pairs same_value ≡ true → mismatch_is None ≡ first_mismatch (template_is t) (tuple_at p i)
+    pub none_told : pairs same_kind ≡ true → pairs same_value ≡ true → mismatch_is (Ok tt) ≡ first_mismatch (template_is t) (tuple_at p i)
     unfolding mismatch_is first_mismatch same_kinds same_values
     none_told k v = rw (same_count_lem, all_pairs same_kind, k, all_pairs same_value, v)
 
@@ -152,14 +154,22 @@ value_differs t p i f few h e = by (eqb c t.count) refl
     all = pairs_false same_value t p i t.count f f 0 (omega arith) h e
 
     kinds : c ≡ t.count → (k : Bool) → pairs_from same_kind t p i t.count 0 ≡ k → is_match (template_is t) (tuple_at p i) ≡ false
-    kinds q true k = told_none t (tuple_at p i) (mismatch_is Values) (values_told t p i c refl q few k all) refl
-    kinds q false k = told_none t (tuple_at p i) (mismatch_is Kinds) (kinds_told t p i c refl q few k) refl
+    kinds q true k = told_none t (tuple_at p i) (mismatch_is (Err Values)) (values_told t p i c refl q few k all) refl
+    kinds q false k = told_none t (tuple_at p i) (mismatch_is (Err Kinds)) (kinds_told t p i c refl q few k) refl
 
     by : (b : Bool) → eqb c t.count ≡ b → is_match (template_is t) (tuple_at p i) ≡ false
     by true q = kinds (eqb-true c t.count q) (pairs_from same_kind t p i t.count 0) refl
-    by false q = told_none t (tuple_at p i) (mismatch_is Count) (count_told t p i c refl (eqb-false c t.count q)) refl
+    by false q = told_none t (tuple_at p i) (mismatch_is (Err Count)) (count_told t p i c refl (eqb-false c t.count q)) refl
 
 -- ---- a match
+
+-- an answer of the code that names no condition
+pub told_ok : (r : code.Result (Unit {0}) answer.Mismatch) → is_ok r ≡ eqb (mismatch_number (mismatch_is r)) 0
+unfolding mismatch_is mismatch_number
+told_ok (Ok u) = refl
+told_ok (Err Count) = refl
+told_ok (Err Kinds) = refl
+told_ok (Err Values) = refl
 
 module _ (t : Template) (u : Tuple) (s : ℕ) (of : s ≡ u.space) where
   pub match_space : (s ≡ t.space → ⊥) → false ≡ is_match (template_is t) u
@@ -185,10 +195,10 @@ module _ (q : Tuple → Bool) (p : List ℕ) (n : ℕ) where
   unfolding searched first_from
   search_miss i h e = rw (read_drop p n i h, e, add-one i)
 
-  pub search_hit : (i : ℕ) → i < n → q (tuple_at p i) ≡ true → found_is p (At i) ≡ searched i
+  pub search_hit : (i : ℕ) → i < n → q (tuple_at p i) ≡ true → found_is p (Some i) ≡ searched i
   unfolding searched first_from found_is
   search_hit i h e = rw (read_drop p n i h, e)
 
-  pub search_end : (i : ℕ) → n ≤ i → found_is p Nothing ≡ searched i
+  pub search_end : (i : ℕ) → n ≤ i → found_is p None ≡ searched i
   unfolding searched first_from found_is
   search_end i h = rw (drop_of_length-le (tuples_of p n) {i = i} (omega (arith, items_length tuple_shape p n)))

@@ -21,45 +21,35 @@ pub struct Template {
     pub highest: [u32; words::MOST_FIELDS],
 }
 
-// Which condition of document 003, section 5.1, fails first: 0 none, 1 the number of fields, 2 the kinds, 3 the values.
+// Which condition of document 003, section 5.1, fails first: 1 the number of fields, 2 the kinds, 3 the values.
 #[derive(Clone, Copy)]
 pub enum Mismatch {
-    None,
     Count,
     Kinds,
     Values,
 }
 
-#[derive(Clone, Copy)]
-pub enum Found {
-    At(usize),
-    Nothing,
-}
-
 // The conditions of 5.1 in their order, on a template, the μ of the page, and the tuple at index i, its τ. (Both loops end at the sixth field and are
 // left at the template's count, which lets the compiler write out their turns.)
-pub fn first_mismatch(tuples: &[u8], i: usize, template: Template) -> Mismatch
+pub fn first_mismatch(tuples: &[u8], i: usize, template: Template) -> Result<(), Mismatch>
     requires { HasRows tuple_size tuples.now (i + 1) × (template.count ≤ most_fields) }
     ensures { mismatch_is result ≡ first_mismatch (template_is template) (tuple_at tuples.now i) }
 {
     // "μ and τ have the same number of fields."
     if tuples::field_count(tuples, i) != template.count {
-        return Mismatch::Count;
+        return Err(Mismatch::Count);
     }
     // "Corresponding fields have the same types."
-    let mut k = 0;
-    'kinds: while k < words::MOST_FIELDS {
+    'kinds: for k in 0..words::MOST_FIELDS {
         if k == template.count {
             break 'kinds;
         }
         if tuples::kind(tuples, i, k) != template.kinds[k] {
-            return Mismatch::Kinds;
+            return Err(Mismatch::Kinds);
         }
-        k += 1;
     }
     // "Each pair of corresponding fields F_μ and F_τ match as follows":
-    let mut f = 0;
-    'values: while f < words::MOST_FIELDS {
+    'values: for f in 0..words::MOST_FIELDS {
         if f == template.count {
             break 'values;
         }
@@ -71,15 +61,14 @@ pub fn first_mismatch(tuples: &[u8], i: usize, template: Template) -> Mismatch
             let highest = template.highest[f];
             if lowest == highest {
                 if n != lowest {
-                    return Mismatch::Values;
+                    return Err(Mismatch::Values);
                 }
             } else if !values::is_within(template.kinds[f], lowest, highest, n) {
-                return Mismatch::Values;
+                return Err(Mismatch::Values);
             }
         }
-        f += 1;
     }
-    Mismatch::None
+    Ok(())
 }
 
 // A quick test before the conditions: no match where the space or a value that is given exactly differs. (It is written into each search, and the
@@ -92,8 +81,7 @@ fn may_match(tuples: &[u8], i: usize, template: Template) -> bool
     if space != template.space {
         return false;
     }
-    let mut e = 0;
-    'values: while e < words::MOST_FIELDS {
+    'values: for e in 0..words::MOST_FIELDS {
         if e == template.count {
             break 'values;
         }
@@ -105,7 +93,6 @@ fn may_match(tuples: &[u8], i: usize, template: Template) -> bool
                 }
             }
         }
-        e += 1;
     }
     true
 }
@@ -118,12 +105,7 @@ fn agrees(tuples: &[u8], i: usize, template: Template) -> bool
     if tuples::space(tuples, i) != template.space {
         return false;
     }
-    match first_mismatch(tuples, i, template) {
-        Mismatch::None => true,
-        Mismatch::Count => false,
-        Mismatch::Kinds => false,
-        Mismatch::Values => false,
-    }
+    first_mismatch(tuples, i, template).is_ok()
 }
 
 // Whether a tuple is a match.
@@ -131,25 +113,18 @@ pub fn is_match(tuples: &[u8], i: usize, template: Template) -> bool
     requires { HasRows tuple_size tuples.now (i + 1) × (template.count ≤ most_fields) }
     ensures { result ≡ is_match (template_is template) (tuple_at tuples.now i) }
 {
-    if !may_match(tuples, i, template) {
-        return false;
-    }
-    agrees(tuples, i, template)
+    may_match(tuples, i, template) && agrees(tuples, i, template)
 }
 
 // "the oldest match": the first of n tuples that the template matches.
-pub fn find(tuples: &[u8], n: usize, template: Template) -> Found
+pub fn find(tuples: &[u8], n: usize, template: Template) -> Option<usize>
     requires { (length tuples.now ≡ tuples_size) × (n ≤ most_tuples) × (template.count ≤ most_fields) }
     ensures { found_is tuples.now result ≡ first (is_match (template_is template)) (tuples_of tuples.now n) }
 {
-    let mut i = 0;
-    while i < n {
-        if may_match(tuples, i, template) {
-            if agrees(tuples, i, template) {
-                return Found::At(i);
-            }
+    for i in 0..n {
+        if may_match(tuples, i, template) && agrees(tuples, i, template) {
+            return Some(i);
         }
-        i += 1;
     }
-    Found::Nothing
+    None
 }

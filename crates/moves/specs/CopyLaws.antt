@@ -1,5 +1,5 @@
 -- A copy under way: one tuple more, copied or not, and how it ends. Assumes nothing.
-use Rattle.std.specs.Prelude.{◌≡◌, ℕ, ◌+◌, ◌-◌, ◌*◌, ◌≤◌, ◌<◌, true, false, length, take, drop}
+use Rattle.std.specs.Prelude.{None, Some, ◌≡◌, ℕ, ◌+◌, ◌-◌, ◌*◌, ◌≤◌, ◌<◌, true, false, length, take, drop}
 use Rattle.std.proofs.Math.Path.{sym, ap}
 use Rattle.std.proofs.Common.{◌∙◌, arith, length-append, take-append-drop, take_all}
 use mathlib.Core.List.{List, [], ◌∷◌, ◌++◌, map, map-append, append_assoc, append-nil}
@@ -19,7 +19,6 @@ use Rattle.tuples.specs.SectionLaws.{read_at_lem, entry_is, tuple_legal}
 use Rattle.matching.specs.declared.Template.{Template}
 use Rattle.matching.specs.Meaning.{template_is}
 use Rattle.tuples.specs.Entry.{with_space}
-use Rattle.moves.specs.declared.Copied.TheVariants.{Now, Full}
 use Rattle.moves.specs.Moves.{relocated, Copies}
 use Rattle.moves.specs.SelectedLaws.{tested, relocated_no, relocated_yes, relocated_row}
 
@@ -71,7 +70,7 @@ module _ (t : Template) (to : ℕ) {p : List ℕ} {n : ℕ} (s : Section p n) wh
             rw (more, ← append_assoc (tuples_of p n) new x) (holds_added tuple_shape a c (with_space to (rows_from tuple_size a i)) m 1 (tuples_of p n ++ new) x h (omega arith) lawful row stored)
 
         -- no room: there are more than those so far
-        pub copying_full : (q : List ℕ) → most_tuples ≤ m → q ≡ rows_over tuple_size a n (zeros ((m - n) * tuple_size)) (m - n) → Copies Full p q n (relocated t to (tuples_of p n))
+        pub copying_full : (q : List ℕ) → most_tuples ≤ m → q ≡ rows_over tuple_size a n (zeros ((m - n) * tuple_size)) (m - n) → Copies None p q n (relocated t to (tuples_of p n))
         copying_full q full stored =
             let front : List Tuple = take (i + 1) (tuples_of p n) in
             let rest : List Tuple = relocated t to (drop (i + 1) (tuples_of p n)) in
@@ -80,7 +79,7 @@ module _ (t : Template) (to : ℕ) {p : List ℕ} {n : ℕ} (s : Section p n) wh
             let cleared = holds_cleared tuple_shape a q n m (tuples_of p n) new h (sym (items_length tuple_shape p n)) stored in
             (omega (arith, ap length all, length-append (relocated t to front) rest, copying_count), cleared.rows.bytes ∙ sym s.rows.bytes)
 
-    pub copying_end : n ≤ i → Copies (Now m) p a n (relocated t to (tuples_of p n))
+    pub copying_end : n ≤ i → Copies (Some m) p a n (relocated t to (tuples_of p n))
     copying_end past =
         let all : take i (tuples_of p n) ≡ tuples_of p n = take_all i (tuples_of p n) (omega (arith, items_length tuple_shape p n)) in
         (copying_count ∙ rw all, rw all at h)

@@ -1,5 +1,6 @@
 -- Move and copy: the tuples that a template selects, and the others. Assumes nothing.
-use Rattle.std.specs.Prelude.{◌≡◌, ℕ, ◌+◌, ◌-◌, ◌≤◌, ◌<◌, not, List, [], ◌∷◌, ◌++◌, map, length, take, drop}
+use Rattle.std.specs.Prelude as code
+use Rattle.std.specs.Prelude.{None, Some, ◌≡◌, ℕ, ◌+◌, ◌-◌, ◌≤◌, ◌<◌, not, List, [], ◌∷◌, ◌++◌, map, length, take, drop}
 use Rattle.basis.specs.Lists.{keep}
 use Rattle.basis.specs.Sizes.{most_tuples, tuple_size}
 use Rattle.model.specs.Matching.{Tuple, selected}
@@ -8,8 +9,6 @@ use Rattle.sections.specs.Rows.{rows_from}
 use Rattle.sections.specs.FirstRows.{FirstRows}
 use Rattle.tuples.specs.Section.{tuple_shape, entry_bytes, entry_at, tuples_of, Holds}
 use Rattle.matching.specs.declared.Template.{Template}
-use Rattle.moves.specs.declared.Copied.{Copied}
-use Rattle.moves.specs.declared.Copied.TheVariants.{Now, Full}
 use Rattle.matching.specs.Meaning.{template_is}
 
 -- the tuples that the template does not select
@@ -22,9 +21,9 @@ relocated t to ts = map (in_space to) (keep (selected (template_is t)) ts)
 
 -- what an answer of copy says of the section p of n tuples, which q is after it, and of the copies: they are appended, and the count is
 -- the new one; or they "would pass 512", and nothing changed
-abbrev pub Copies : Copied → (p q : List ℕ) (n : ℕ) (new : List Tuple) → Type 0
-Copies (Now m) p q n new = (m ≡ n + length new) × Holds q m (tuples_of p n ++ new)
-Copies Full p q n new = (most_tuples < n + length new) × (q ≡ p)
+abbrev pub Copies : code.Option ℕ → (p q : List ℕ) (n : ℕ) (new : List Tuple) → Type 0
+Copies (Some m) p q n new = (m ≡ n + length new) × Holds q m (tuples_of p n ++ new)
+Copies None p q n new = (most_tuples < n + length new) × (q ≡ p)
 
 -- ---- a move under way
 

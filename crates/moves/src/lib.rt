@@ -16,13 +16,6 @@ use matching::Template;
 // How many tuples that are not selected a move holds at once.
 const HELD: usize = 64;
 
-// What copy did: how many tuples there are now; or nothing, where they "would pass 512".
-#[derive(Clone, Copy)]
-pub enum Copied {
-    Now(usize),
-    Full,
-}
-
 // Whether move and copy take the tuple at index i: "0 fields match every tuple of the space".
 fn selected(tuples: &[u8], i: usize, template: Template) -> bool
     requires { HasRows tuple_size tuples.now (i + 1) × (template.count ≤ most_fields) }
@@ -80,39 +73,32 @@ pub fn move_all(tuples: &mut [u8], n: usize, template: Template, to: u16)
     let mut held = [0u8; HELD * words::TUPLE];
     let mut m = 0;
     let mut k = 0;
-    let mut i = 0;
-    while i < n {
+    for i in 0..n {
         if selected(tuples, i, template) {
             relocate(tuples, m + k, i, to);
             k += 1;
-            i += 1;
         } else {
             m = keep_other(tuples, &mut held, m, k, i);
-            i += 1;
         }
     }
     put_in(tuples, m, k, &held, n - (m + k));
 }
 
-// "copy appends copies of the matches present before it", or nothing where the tuples "would pass 512".
-pub fn copy_all(tuples: &mut [u8], n: usize, template: Template, to: u16) -> Copied
+// "copy appends copies of the matches present before it": how many tuples there are then; or nothing, where they "would pass 512".
+pub fn copy_all(tuples: &mut [u8], n: usize, template: Template, to: u16) -> Option<usize>
     requires { Section tuples.old n × (template.count ≤ most_fields) × (to < space_numbers) }
     ensures { Copies result tuples.old tuples.new n (relocated template to (tuples_of tuples.old n)) }
 {
     let mut m = n;
-    let mut i = 0;
-    while i < n {
+    for i in 0..n {
         if selected(tuples, i, template) {
             if words::MOST_TUPLES <= m {
                 tuples::clear_rows(tuples, n, m);
-                return Copied::Full;
+                return None;
             }
             relocate(tuples, m, i, to);
             m += 1;
-            i += 1;
-        } else {
-            i += 1;
         }
     }
-    Copied::Now(m)
+    Some(m)
 }

@@ -1,4 +1,6 @@
 -- One operation of a body on the section of tuples: what it leaves there, and what the code does by its parts. Assumes nothing.
+use Rattle.std.specs.Prelude as code
+use Rattle.std.specs.Prelude.{None, Some}
 use Rattle.std.specs.Prelude.{◌≡◌, ℕ, zero, suc, ◌+◌, ◌-◌, ◌≤◌, ◌<◌, Bool, cond, get_or, T}
 use Rattle.std.proofs.Math.Path.{refl, sym, ap}
 use Rattle.std.proofs.Common.{subst, ◌∙◌, arith}
@@ -10,7 +12,7 @@ use Rattle.std.proofs.Math.ListN.{length}
 use Rattle.std.proofs.Math.Seq.{get_or-append_seam}
 use Rattle.std.proofs.Math.Dec.{leb}
 use borrow.Author.Tests.{le-leb, lt-leb}
-use Rattle.basis.specs.Choice.{maybe, provided}
+use Rattle.basis.specs.Choice.{maybe}
 use Rattle.basis.specs.Lists.{first, remove_at, keep}
 use Rattle.basis.specs.ListLaws.{Each, First, first_some, first_below}
 use Rattle.basis.specs.Sizes.{space_numbers, most_tuples}
@@ -22,8 +24,6 @@ use Rattle.model.specs.Matching.{Tuple, Bindings, template, is_match, selected, 
 use Rattle.model.proofs.MatchingLaws.{matched}
 use Rattle.model.specs.Execution.{Result, done, failed, looked_up, made_all, appended, in_space, moved, perform}
 use Rattle.matching.specs.declared.Template.{Template}
-use Rattle.matching.specs.declared.Found as declared
-use Rattle.matching.specs.declared.Found.TheVariants.{At, Nothing}
 use Rattle.layout.specs.States.{tuple_read}
 use Rattle.sections.specs.Shapes.{items_length, holds_read, holds}
 use Rattle.tuples.specs.Section.{Legal, tuple_shape, entry_bytes, tuple_at, tuples_of, Holds, Section}
@@ -31,7 +31,6 @@ use Rattle.tuples.specs.Entry.{Entry}
 use Rattle.tuples.specs.EntryLaws.{entry_of, entry_read}
 use Rattle.tuples.specs.SectionLaws.{read_at_lem}
 use Rattle.matching.specs.Meaning.{template_is, found_is}
-use Rattle.moves.specs.declared.Copied.TheVariants.{Now, Full}
 use Rattle.moves.specs.Moves.{relocated, Copies}
 use Rattle.bindings.specs.declared.Vars.{Vars}
 use Rattle.bindings.specs.Variables.{bindings_of}
@@ -74,17 +73,17 @@ after_taking withdraws n = cond withdraws (n - 1) n
 
 -- what the search answers
 module _ (bs : Bindings) (s : ℕ) (fs : List Model.Field) (p : List ℕ) (n : ℕ) (t : Template) (a : template_is t ≡ template bs s fs) where
-  found_oldest : (r : declared.Found) → found_is p r ≡ first (is_match (template_is t)) (tuples_of p n) → oldest bs s fs (tuples_of p n) ≡ found_is p r
+  found_oldest : (r : code.Option ℕ) → found_is p r ≡ first (is_match (template_is t)) (tuples_of p n) → oldest bs s fs (tuples_of p n) ≡ found_is p r
   unfolding oldest
   found_oldest r e = ap (λ (h : Tuple → Bool). first h (tuples_of p n)) (sym (ap is_match a)) ∙ sym e
 
-  pub search_none : found_is p Nothing ≡ first (is_match (template_is t)) (tuples_of p n) → (withdraws : Bool) (v : Vars) → Section p n → Leaves (look_up withdraws bs s fs (tuples_of p n)) 16 n v p
+  pub search_none : found_is p None ≡ first (is_match (template_is t)) (tuples_of p n) → (withdraws : Bool) (v : Vars) → Section p n → Leaves (look_up withdraws bs s fs (tuples_of p n)) 16 n v p
   unfolding look_up found_is
-  search_none e withdraws v h = rw (found_oldest Nothing e) (leaves_failed 15 n v p h)
+  search_none e withdraws v h = rw (found_oldest None e) (leaves_failed 15 n v p h)
 
-  pub search_at : (i : ℕ) → found_is p (At i) ≡ first (is_match (template_is t)) (tuples_of p n) → OldestAt bs s fs p n i
+  pub search_at : (i : ℕ) → found_is p (Some i) ≡ first (is_match (template_is t)) (tuples_of p n) → OldestAt bs s fs p n i
   unfolding found_is
-  search_at i e = found_oldest (At i) e
+  search_at i e = found_oldest (Some i) e
 
 -- an oldest match at an index is the tuple that stands there
 pub oldest_at : (bs : Bindings) (s : ℕ) (fs : List Model.Field) (p : List ℕ) (n i : ℕ) (t : Tuple) → oldest bs s fs (tuples_of p n) ≡ some (record { index = i; item = t }) → OldestAt bs s fs p n i
@@ -134,24 +133,24 @@ record Made (bs : Bindings) (s : ℕ) (fs : List Model.Field) (tuple : List ℕ)
   is : made_all bs fs ≡ some values
   bytes : tuple ≡ entry_bytes (tuple_of s values)
 
-made : (bs : Bindings) (s : ℕ) (fs : List Model.Field) (tuple : List ℕ) → provided true tuple ≡ made_bytes bs s fs → Made bs s fs tuple
-unfolding provided made_bytes
+made : (bs : Bindings) (s : ℕ) (fs : List Model.Field) (tuple : List ℕ) → some tuple ≡ made_bytes bs s fs → Made bs s fs tuple
+unfolding made_bytes
 made bs s fs tuple h = go (made_all bs fs) refl h
   where
     go : (o : Option (List Value)) → made_all bs fs ≡ o → some tuple ≡ Option.map (λ vs. entry_bytes (tuple_of s vs)) o → Made bs s fs tuple
     go none d h = absurd (none-ne-some tuple (sym h))
     go (some vs) d h = record { values = vs; is = d; bytes = some-injective tuple (entry_bytes (tuple_of s vs)) h }
 
-module _ (bs : Bindings) (s : ℕ) (fs : List Model.Field) (p : List ℕ) (n : ℕ) (v : Vars) (e : bindings_of v ≡ bs) (tuple : List ℕ) where
-  pub deposit_unmade : Section p n → provided false tuple ≡ made_bytes bs s fs → Leaves (perform (deposit s fs) bs (tuples_of p n)) 17 n v p
-  unfolding perform provided made_bytes
+module _ (bs : Bindings) (s : ℕ) (fs : List Model.Field) (p : List ℕ) (n : ℕ) (v : Vars) (e : bindings_of v ≡ bs) where
+  pub deposit_unmade : Section p n → none ≡ made_bytes bs s fs → Leaves (perform (deposit s fs) bs (tuples_of p n)) 17 n v p
+  unfolding perform made_bytes
   deposit_unmade k h = go (made_all bs fs) refl h
     where
       go : (o : Option (List Value)) → made_all bs fs ≡ o → none ≡ Option.map (λ vs. entry_bytes (tuple_of s vs)) o → Leaves (perform (deposit s fs) bs (tuples_of p n)) 17 n v p
       go none d h = rw d (leaves_failed 16 n v p k)
       go (some vs) d h = absurd (none-ne-some (entry_bytes (tuple_of s vs)) h)
 
-  module _ (h : provided true tuple ≡ made_bytes bs s fs) where
+  module _ (tuple : List ℕ) (h : some tuple ≡ made_bytes bs s fs) where
     pub deposit_full : Section p n → most_tuples ≤ n → Leaves (perform (deposit s fs) bs (tuples_of p n)) 12 n v p
     unfolding perform appended
     deposit_full o k =
@@ -185,14 +184,14 @@ module _ (bs : Bindings) (from to : ℕ) (fs : List Model.Field) (p : List ℕ) 
   unfolding relocated
   copies = ap (λ (s : Tuple → Bool). map (in_space to) (keep s (tuples_of p n))) (ap selected a)
 
-  pub transfer_full : (q : List ℕ) (withdraws : Bool) → withdraws ≡ false → Section p n → Copies Full p q n (relocated t to (tuples_of p n)) → Leaves (perform (transfer withdraws from to fs) bs (tuples_of p n)) 12 n v q
+  pub transfer_full : (q : List ℕ) (withdraws : Bool) → withdraws ≡ false → Section p n → Copies None p q n (relocated t to (tuples_of p n)) → Leaves (perform (transfer withdraws from to fs) bs (tuples_of p n)) 12 n v q
   unfolding perform appended
   transfer_full q withdraws w k h =
       let full : leb (length (tuples_of p n) + length (relocated t to (tuples_of p n))) most_tuples ≡ false =
       lt-leb (length (tuples_of p n) + length (relocated t to (tuples_of p n))) most_tuples (omega (arith, h.0, items_length tuple_shape p n)) in
       rw (w, ← copies, full, h.1) (leaves_failed 11 n v p k)
 
-  pub transfer_copied : (q : List ℕ) (m : ℕ) (withdraws : Bool) → withdraws ≡ false → Copies (Now m) p q n (relocated t to (tuples_of p n)) → Leaves (perform (transfer withdraws from to fs) bs (tuples_of p n)) 0 m v q
+  pub transfer_copied : (q : List ℕ) (m : ℕ) (withdraws : Bool) → withdraws ≡ false → Copies (Some m) p q n (relocated t to (tuples_of p n)) → Leaves (perform (transfer withdraws from to fs) bs (tuples_of p n)) 0 m v q
   unfolding perform appended
   transfer_copied q m withdraws w h =
       let room : leb (length (tuples_of p n) + length (relocated t to (tuples_of p n))) most_tuples ≡ true =

@@ -15,8 +15,6 @@ ghost use Rattle.operations.specs.Performing.{Leaves, look_up, OldestAt, after_t
 ghost use Rattle.operations.specs.Codes.{CanPerform, room_after};
 
 use bindings::Vars;
-use matching::Found;
-use moves::Copied;
 use statements::Operation;
 
 // What an operation or a branch did: outcome 0, with the tuples' number and the variables after it; else the number of the failure.
@@ -61,8 +59,8 @@ fn look_up(tuples: &mut [u8], n: usize, op: Operation, v: Vars, withdraws: bool)
     ensures { Leaves (look_up withdraws (bindings_of v) op.from (fields_in op) (tuples_of tuples.old n)) result.outcome result.n result.vars tuples.new }
 {
     match matching::find(tuples, n, bindings::template_of(op, v)) {
-        Found::At(i) => take_found(tuples, n, op, v, i, withdraws),
-        Found::Nothing => Done {
+        Some(i) => take_found(tuples, n, op, v, i, withdraws),
+        None => Done {
             outcome: 16,
             n,
             vars: v,
@@ -75,14 +73,13 @@ fn deposit(tuples: &mut [u8], n: usize, op: Operation, v: Vars) -> Done
     requires { Section tuples.old n × (op.count ≤ most_fields) × CanDeposit (bindings_of v) op.from (fields_in op) }
     ensures { Leaves (perform (deposit op.from (fields_in op)) (bindings_of v) (tuples_of tuples.old n)) result.outcome result.n result.vars tuples.new }
 {
-    let made = bindings::make_tuple(op, v);
-    if !made.ok {
+    let Some(tuple) = bindings::make_tuple(op, v) else {
         return Done {
             outcome: 17,
             n,
             vars: v,
         };
-    }
+    };
     if words::MOST_TUPLES <= n {
         return Done {
             outcome: 12,
@@ -90,7 +87,6 @@ fn deposit(tuples: &mut [u8], n: usize, op: Operation, v: Vars) -> Done
             vars: v,
         };
     }
-    let tuple = made.tuple;
     tuples::append(tuples, n, &tuple);
     Done {
         outcome: 0,
@@ -114,12 +110,12 @@ fn transfer(tuples: &mut [u8], n: usize, op: Operation, v: Vars, withdraws: bool
         };
     }
     match moves::copy_all(tuples, n, t, op.to) {
-        Copied::Now(m) => Done {
+        Some(m) => Done {
             outcome: 0,
             n: m,
             vars: v,
         },
-        Copied::Full => Done {
+        None => Done {
             outcome: 12,
             n,
             vars: v,

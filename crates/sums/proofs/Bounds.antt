@@ -1,4 +1,5 @@
 -- The tests of `add_whole` and `subtract_whole`: the result goes down or up by a step, and it is in range unless the first operand is past the limit less that step. Assumes nothing.
+use Rattle.std.specs.Prelude.{None, Some}
 use Prim.Native.Nat.{ℕ, ◌+◌, ◌-◌, ◌<◌, ◌≤◌}
 use mathlib.Core.Path.{◌≡◌, ap}
 use mathlib.Core.Bool.{true, false}
@@ -14,7 +15,6 @@ use Rattle.model.specs.Value.{exact}
 use Rattle.values.specs.Meaning.{answered}
 use Rattle.sums.specs.Meaning.{off_range, sum_is}
 use Rattle.values.specs.declared.Value.TheVariants.{Whole}
-use Rattle.sums.specs.declared.Sum.TheVariants.{Is, Refused}
 use Rattle.values.proofs.Twos.{again}
 use Rattle.sums.proofs.Place.{place, place_add, place_subtract, in_range, range_in, below, above, less, not_less}
 
@@ -92,19 +92,19 @@ module _ (a b : ℤ) (f : SFits w32 a) (g : SFits w32 b) where
 
 -- ---- what is returned
 
-exact_in : (z : ℤ) → mag z < 2147483648 → sum_is (Is (Whole z)) ≡ answered off_range (exact z)
+exact_in : (z : ℤ) → mag z < 2147483648 → sum_is (Some (Whole z)) ≡ answered off_range (exact z)
 unfolding exact provided
 exact_in z h = rw (lt-ltb (mag z) 2147483648 h)
 
-exact_off : (z : ℤ) → 2147483648 ≤ mag z → sum_is Refused ≡ answered off_range (exact z)
+exact_off : (z : ℤ) → 2147483648 ≤ mag z → sum_is None ≡ answered off_range (exact z)
 unfolding exact provided
 exact_off z h = rw (le-ltb (mag z) 2147483648 h)
 
 module _ {forth back : ℤ → ℤ → ℤ} {a b : ℤ} (s : Step forth back a b) where
-  pub given : SFits w32 (forth (again a) (again b)) → sum_is (Is (Whole (again (forth (again a) (again b))))) ≡ answered off_range (exact (forth a b))
+  pub given : SFits w32 (forth (again a) (again b)) → sum_is (Some (Whole (again (forth (again a) (again b))))) ≡ answered off_range (exact (forth a b))
   given f = rw (to_z-of_z f, to_z-of_z s.first, to_z-of_z s.second) (exact_in (forth a b) (rw (to_z-of_z s.first, to_z-of_z s.second) at f.sfits))
 
-  refused : 2147483648 ≤ mag (forth (again a) (again b)) → sum_is Refused ≡ answered off_range (exact (forth a b))
+  refused : 2147483648 ≤ mag (forth (again a) (again b)) → sum_is None ≡ answered off_range (exact (forth a b))
   refused h = exact_off (forth a b) (rw (to_z-of_z s.first, to_z-of_z s.second) at h)
 
 -- ---- a step down: the limit, moved back from the lowest number, is a number of 32 bits; below it the result is off the range, and from it on in range
@@ -119,7 +119,7 @@ module _ {forth back : ℤ → ℤ → ℤ} {a b : ℤ} (d : Down forth back a b
   pub low_fits : SFits w32 low
   low_fits = record { sfits = range_in low (omega (arith, at_low, d.down)) (omega (arith, at_low, d.step.least)) }
 
-  pub low_past : lt_z (again a) (again low) ≡ true → sum_is Refused ≡ answered off_range (exact (forth a b))
+  pub low_past : lt_z (again a) (again low) ≡ true → sum_is None ≡ answered off_range (exact (forth a b))
   low_past t =
       refused d.step (below (forth (again a) (again b)) (omega (arith, less (again a) (again low) (held a d.step.first) (held low low_fits) t, ap place (to_z-of_z low_fits), at_low, d.step.moved)))
 
@@ -143,7 +143,7 @@ module _ {forth back : ℤ → ℤ → ℤ} {a b : ℤ} (u : Up forth back a b) 
   pub high_fits : SFits w32 high
   high_fits = record { sfits = range_in high (omega (arith, at_high, u.step.most)) (omega (arith, at_high, u.up)) }
 
-  pub high_past : lt_z (again high) (again a) ≡ true → sum_is Refused ≡ answered off_range (exact (forth a b))
+  pub high_past : lt_z (again high) (again a) ≡ true → sum_is None ≡ answered off_range (exact (forth a b))
   high_past t =
       refused u.step (above (forth (again a) (again b)) (omega (arith, less (again high) (again a) (held high high_fits) (held a u.step.first) t, ap place (to_z-of_z high_fits), at_high, u.step.moved)))
 

@@ -1,4 +1,5 @@
 -- Sums of metres by their bits: what is read back from the bits of a sum is the sum, and it is finite exactly if they are below an infinity's. Assumes nothing.
+use Rattle.std.specs.Prelude.{None, Some}
 use Prim.Native.Nat.{ℕ, ◌%◌, ◌<◌, ◌≤◌}
 use mathlib.Core.Path.{◌≡◌, ap, ap₂, ◌∙◌}
 use mathlib.Core.Bool.{not}
@@ -15,13 +16,12 @@ use Rattle.values.specs.Meaning.{answered}
 use Rattle.values.specs.declared.Value.TheVariants.{Metres}
 use Rattle.values.proofs.Finite.{no_nan, metres_finite}
 use Rattle.sums.specs.Meaning.{off_range, sum_is}
-use Rattle.sums.specs.declared.Sum.TheVariants.{Is, Refused}
 
-pub finite_given : (n : ℕ) → n % sign < infinite → sum_is (Is (Metres (of_bits binary32 n))) ≡ answered off_range (rounded (of_bits binary32 n))
+pub finite_given : (n : ℕ) → n % sign < infinite → sum_is (Some (Metres (of_bits binary32 n))) ≡ answered off_range (rounded (of_bits binary32 n))
 unfolding rounded provided
 finite_given n h = rw (finite_bits n, lt-ltb (n % sign) infinite h)
 
-pub infinite_refused : (n : ℕ) → infinite ≤ n % sign → sum_is Refused ≡ answered off_range (rounded (of_bits binary32 n))
+pub infinite_refused : (n : ℕ) → infinite ≤ n % sign → sum_is None ≡ answered off_range (rounded (of_bits binary32 n))
 unfolding rounded provided
 infinite_refused n h = rw (finite_bits n, le-ltb (n % sign) infinite h)
 

@@ -8,7 +8,7 @@ returns-then-f-eq0 c = asks_actual (bindings_of c.args.v) c.args.f c.if-f-eq0.tr
 
 pub returns-then-f-eq2 : goal.returns-then-f-eq2
 returns-then-f-eq2 c =
-    asks_reference (bindings_of c.args.v) c.args.f c.if-f-eq2.true c.held-h.result.kind c.held-h.result.bits c.held-h.ensures.0
+    asks_reference (bindings_of c.args.v) c.args.f c.if-f-eq2.true c.held-h.result.kind c.held-h.result.bits c.held-h.ensures
 
 pub returns : goal.returns
 returns c =

@@ -15,7 +15,7 @@ pub returns-in-0 : goal.returns-in-0
 returns-in-0 c = made_actual (bindings_of c.args.v) c.args.f c.in-0.is
 
 pub returns-in-2 : goal.returns-in-2
-returns-in-2 c = let a = c.args in made_reference (bindings_of a.v) a.f c.in-2.is c.held.result.kind c.held.result.bits c.held.result.given c.held.ensures
+returns-in-2 c = made_reference (bindings_of c.args.v) c.args.f c.in-2.is _ c.held.ensures
 
 pub returns-in-3 : goal.returns-in-3
 returns-in-3 c = let a = c.args in c.sum_value.ensures ∙ made_sum (bindings_of a.v) a.f c.in-3.is

@@ -1,6 +1,5 @@
 -- `bindings::make_tuple` meets its contract. Assumes nothing.
 use mathlib.Core.Path.{◌≡◌}
-use Prim.Native.Nat.{◌-◌, ◌≤◌}
 use lib.ListN.{length}
 use Rattle.basis.specs.Sizes.{tuple_size}
 use Rattle.bindings.specs.Fields.{fields_in}
@@ -9,7 +8,4 @@ use Rattle.bindings.specs.Making.{Making}
 use Rattle.bindings.proofs.make_tuple.Given as goal
 
 abbrev pub invariant-loop-j : goal.invariant-loop-j
-invariant-loop-j l = (l.j ≤ l.n) × (length l.tuple ≡ tuple_size) × Making (bindings_of l.v) l.op.from (fields_in l.op) l.n l.j l.tuple
-
-abbrev pub decreases-loop-j : goal.decreases-loop-j
-decreases-loop-j l = l.n - l.j
+invariant-loop-j l = (length l.tuple ≡ tuple_size) × Making (bindings_of l.v) l.op.from (fields_in l.op) l.op.count l.j l.tuple

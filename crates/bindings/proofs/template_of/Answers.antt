@@ -16,17 +16,16 @@ use Rattle.bindings.proofs.template_of.Goals as goal
 
 pub loop-i-init : goal.loop-i-init
 unfolding fields_are template_fields_from
-loop-i-init c = (search rules, refl, refl, refl, refl, refl)
+loop-i-init c = (refl, refl, refl, refl, refl)
 
 pub loop-i-preserved : goal.loop-i-preserved
 loop-i-preserved c =
     let at = c.loop-i in
     let six : length c.args.op.fields ≡ most_fields = search (rules, length_mapped) in
     let few : at.i < most_fields = search rules in (
-      search rules,
       ask_turn (bindings_of c.args.v) c.args.op.fields _ at.kinds at.given at.lowest at.highest at.i
           c.asked-a.result.kind c.asked-a.result.given c.asked-a.result.lowest c.asked-a.result.highest
-          (omega arith) (omega arith) (omega arith) (omega arith) (omega arith) at.invariant.1 c.asked-a.ensures,
+          (omega arith) (omega arith) (omega arith) (omega arith) (omega arith) at.invariant.0 c.asked-a.ensures,
       search rules,
       search rules,
       search rules,
@@ -35,5 +34,5 @@ loop-i-preserved c =
 
 pub returns : goal.returns
 returns c =
-    let end : c.loop-i.i ≡ c.args.op.count = omega (arith, c.loop-i.invariant.0, c.loop-i-test.false) in
-    (ap (λ (fs : List TemplateField). record { space = c.args.op.from; fields = fs }) (rw end at c.loop-i.invariant.1), c.requires)
+    let end : c.loop-i.i ≡ c.args.op.count = omega (arith, c.loop-i.auto.i-end, c.loop-i-test.false) in
+    (ap (λ (fs : List TemplateField). record { space = c.args.op.from; fields = fs }) (rw end at c.loop-i.invariant.0), c.requires)

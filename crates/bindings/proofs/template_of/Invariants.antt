@@ -1,7 +1,6 @@
 -- `bindings::template_of` meets its contract. Assumes nothing.
 use mathlib.Core.Path.{◌≡◌}
 use mathlib.Core.List.{map}
-use Prim.Native.Nat.{◌≤◌, ◌-◌}
 use lib.ListN.{length, take}
 use Rattle.basis.specs.Sizes.{most_fields}
 use Rattle.model.specs.Matching.{template_field}
@@ -11,12 +10,8 @@ use Rattle.bindings.specs.Variables.{bindings_of}
 use Rattle.bindings.proofs.template_of.Given as goal
 
 abbrev pub invariant-loop-i : goal.invariant-loop-i
-invariant-loop-i l = (l.i ≤ l.n)
-    × (template_fields_from l.kinds l.given l.lowest l.highest 0 l.i ≡ map (template_field (bindings_of l.v)) (fields_are (take l.i l.op.fields)))
+invariant-loop-i l = (template_fields_from l.kinds l.given l.lowest l.highest 0 l.i ≡ map (template_field (bindings_of l.v)) (fields_are (take l.i l.op.fields)))
     × (length l.kinds ≡ most_fields)
     × (length l.given ≡ most_fields)
     × (length l.lowest ≡ most_fields)
     × (length l.highest ≡ most_fields)
-
-abbrev pub decreases-loop-i : goal.decreases-loop-i
-decreases-loop-i l = l.n - l.i

@@ -1,5 +1,4 @@
 -- `matching::find` meets its contract. Assumes nothing.
-use Prim.Native.Nat.{◌-◌, ◌≤◌}
 use mathlib.Core.Path.{◌≡◌}
 use Rattle.basis.specs.Lists.{first}
 use Rattle.model.specs.Matching.{is_match}
@@ -9,7 +8,4 @@ use Rattle.matching.specs.SearchLaws.{searched}
 use Rattle.matching.proofs.find.Given as goal
 
 abbrev pub invariant-loop-i : goal.invariant-loop-i
-invariant-loop-i l = (l.i ≤ l.n) × (first (is_match (template_is l.template)) (tuples_of l.tuples l.n) ≡ searched (is_match (template_is l.template)) l.tuples l.n l.i)
-
-abbrev pub decreases-loop-i : goal.decreases-loop-i
-decreases-loop-i l = l.n - l.i
+invariant-loop-i l = first (is_match (template_is l.template)) (tuples_of l.tuples l.n) ≡ searched (is_match (template_is l.template)) l.tuples l.n l.i

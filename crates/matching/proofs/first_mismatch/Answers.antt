@@ -1,4 +1,5 @@
 -- `matching::first_mismatch` meets its contract. Assumes nothing.
+use Rattle.std.specs.Prelude.{Ok, Err}
 use Prim.Native.Nat.{◌≤◌, ◌<◌}
 use native.Mathlib.Omega.{arith}
 use mathlib.Core.Path.{◌≡◌, refl, ◌∙◌}
@@ -6,7 +7,7 @@ use mathlib.Core.Bool.{true, false}
 use Rattle.model.specs.Matching.{same_kind, same_value, first_mismatch}
 use Rattle.tuples.specs.Section.{tuple_at}
 use Rattle.tuples.specs.Entry.{value_in}
-use Rattle.matching.specs.declared.Mismatch.TheVariants.{None, Values}
+use Rattle.matching.specs.declared.Mismatch.TheVariants.{Values}
 use Rattle.matching.specs.Meaning.{template_is, mismatch_is}
 use Rattle.matching.specs.SearchLaws.{field_at, pairs_from, pairs_miss, pairs_more, pairs_end, kind_other, kind_same, value_any, value_ranged, value_other, value_same, count_told, kinds_told, values_told, none_told}
 use Rattle.matching.proofs.first_mismatch.Goals as goal
@@ -60,7 +61,7 @@ module _ (c : Else-f-template) where
   -- the value of this field fails
   value-fails : pairs_from same_kind c.args.template c.args.tuples.now c.args.i c.args.template.count 0 ≡ true
       → same_value (field_at c.args.template c.values.f) (value_in c.args.tuples.now c.args.i c.values.f) ≡ false
-      → mismatch_is Values ≡ first_mismatch (template_is c.args.template) (tuple_at c.args.tuples.now c.args.i)
+      → mismatch_is (Err Values) ≡ first_mismatch (template_is c.args.template) (tuple_at c.args.tuples.now c.args.i)
   value-fails k e =
       let a = c.args in
       values_told a.template a.tuples.now a.i _ c.field_count.ensures c.if-field_count-template.false c.requires.1 k
@@ -70,7 +71,7 @@ module _ (c : Else-f-template) where
 module _ (c : At-values) where
   none_fails : pairs_from same_kind c.args.template c.args.tuples.now c.args.i c.args.template.count 0 ≡ true
       → c.args.template.count ≤ c.values.f
-      → mismatch_is None ≡ first_mismatch (template_is c.args.template) (tuple_at c.args.tuples.now c.args.i)
+      → mismatch_is (Ok tt) ≡ first_mismatch (template_is c.args.template) (tuple_at c.args.tuples.now c.args.i)
   none_fails k h =
       let a = c.args in
       none_told a.template a.tuples.now a.i _ c.field_count.ensures c.if-field_count-template.false c.requires.1 k

@@ -1,10 +1,6 @@
 -- `matching::may_match` meets its contract. Assumes nothing.
-use Prim.Native.Nat.{◌-◌, ◌≤◌}
-use Rattle.basis.specs.Sizes.{most_fields}
+use Prim.Native.Nat.{◌≤◌}
 use Rattle.matching.proofs.may_match.Given as goal
 
 abbrev pub invariant-values : goal.invariant-values
 invariant-values l = l.e ≤ l.template.count
-
-abbrev pub decreases-values : goal.decreases-values
-decreases-values l = most_fields - l.e

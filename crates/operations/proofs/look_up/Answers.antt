@@ -24,15 +24,15 @@ take_found-requires c =
     let a = c.args in (
       c.requires.0,
       c.requires.1,
-      search_at (bindings_of a.v) a.op.from (fields_in a.op) (bytes (goal.at.take_found-requires c).After-find) a.n c.template_of.result c.template_of.ensures.0 c.in-At.i
-          (ap (found_is (bytes (goal.at.take_found-requires c).After-find)) (sym c.in-At.is) ∙ c.find.ensures),
+      search_at (bindings_of a.v) a.op.from (fields_in a.op) (bytes (goal.at.take_found-requires c).After-find) a.n c.template_of.result c.template_of.ensures.0 c.in-Some.i
+          (ap (found_is (bytes (goal.at.take_found-requires c).After-find)) (sym c.in-Some.is) ∙ c.find.ensures),
     )
 
-pub returns-in-At : goal.returns-in-At
-returns-in-At c = c.take_found.ensures.0
+pub returns-in-Some : goal.returns-in-Some
+returns-in-Some c = c.take_found.ensures.0
 
-pub returns-in-Nothing : goal.returns-in-Nothing
-returns-in-Nothing c =
+pub returns-in-None : goal.returns-in-None
+returns-in-None c =
     let a = c.args in
-    search_none (bindings_of a.v) a.op.from (fields_in a.op) (bytes (goal.at.returns-in-Nothing c).After-find) a.n c.template_of.result c.template_of.ensures.0
-    (ap (found_is (bytes (goal.at.returns-in-Nothing c).After-find)) (sym c.in-Nothing.is) ∙ c.find.ensures) a.withdraws a.v c.requires.0
+    search_none (bindings_of a.v) a.op.from (fields_in a.op) (bytes (goal.at.returns-in-None c).After-find) a.n c.template_of.result c.template_of.ensures.0
+    (ap (found_is (bytes (goal.at.returns-in-None c).After-find)) (sym c.in-None.is) ∙ c.find.ensures) a.withdraws a.v c.requires.0

@@ -1,6 +1,6 @@
 -- `operations::transfer` meets its contract. Assumes nothing.
 use mathlib.Core.Path.{refl, subst}
-use Rattle.moves.specs.declared.Copied.{Copied}
+use Rattle.std.specs.Prelude.{ℕ, Option}
 use Rattle.moves.specs.Moves.{relocated, Copies}
 use Rattle.tuples.specs.Section.{tuples_of}
 use Rattle.bindings.specs.Fields.{fields_in}
@@ -13,14 +13,14 @@ returns-then-withdraws c =
     let a = c.args in
     transfer_moved (bindings_of a.v) a.op.from a.op.to (fields_in a.op) a.tuples.now a.n a.v refl c.template_of-t.result c.template_of-t.ensures.0 _ a.withdraws c.if-withdraws.true c.move_all.ensures
 
-pub returns-in-Now : goal.returns-in-Now
-returns-in-Now c =
+pub returns-in-Some : goal.returns-in-Some
+returns-in-Some c =
     let a = c.args in
     transfer_copied (bindings_of a.v) a.op.from a.op.to (fields_in a.op) a.tuples.now a.n a.v refl c.template_of-t.result c.template_of-t.ensures.0 _ _ a.withdraws c.if-withdraws.false
-    (subst (λ (r : Copied). Copies r a.tuples.now c.copy_all.new.tuples a.n (relocated c.template_of-t.result a.op.to (tuples_of a.tuples.now a.n))) c.in-Now.is c.copy_all.ensures)
+    (subst (λ (r : Option ℕ). Copies r a.tuples.now c.copy_all.new.tuples a.n (relocated c.template_of-t.result a.op.to (tuples_of a.tuples.now a.n))) c.in-Some.is c.copy_all.ensures)
 
-pub returns-in-Full : goal.returns-in-Full
-returns-in-Full c =
+pub returns-in-None : goal.returns-in-None
+returns-in-None c =
     let a = c.args in
     transfer_full (bindings_of a.v) a.op.from a.op.to (fields_in a.op) a.tuples.now a.n a.v refl c.template_of-t.result c.template_of-t.ensures.0 _ a.withdraws c.if-withdraws.false c.requires.0
-    (subst (λ (r : Copied). Copies r a.tuples.now c.copy_all.new.tuples a.n (relocated c.template_of-t.result a.op.to (tuples_of a.tuples.now a.n))) c.in-Full.is c.copy_all.ensures)
+    (subst (λ (r : Option ℕ). Copies r a.tuples.now c.copy_all.new.tuples a.n (relocated c.template_of-t.result a.op.to (tuples_of a.tuples.now a.n))) c.in-None.is c.copy_all.ensures)

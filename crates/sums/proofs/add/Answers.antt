@@ -3,38 +3,28 @@ use mathlib.Core.Path.{◌≡◌, ◌∙◌}
 use Rattle.model.specs.Value.{value}
 use Rattle.values.specs.Meaning.{value_is}
 use Rattle.values.specs.Answers.{read_is_lem, read_illegal}
-use Rattle.sums.proofs.Sums.{alike, subtracted, added}
+use Rattle.sums.proofs.Sums.{alike}
 use Rattle.sums.proofs.add.Goals as goal
-use Rattle.sums.proofs.add.Goals.{In-Legal, In-Legal-read_value}
+use Rattle.sums.proofs.add.Goals.{In_ok-y}
 
-first : (c : In-Legal) → value_is c.in-Legal.x ≡ value c.args.kind c.args.a
-first c =
-    read_is_lem (value c.args.kind c.args.a) c.read_value.result c.read_value.ensures c.in-Legal.x c.in-Legal.is
+first : (c : In_ok-y) → value_is c.in_ok-x.x ≡ value c.args.kind c.args.a
+first c = read_is_lem (value c.args.kind c.args.a) c.read_value.result c.read_value.ensures c.in_ok-x.x c.in_ok-x.was
 
-second : (c : In-Legal-read_value) → value_is c.in-Legal-read_value.y ≡ value c.args.kind c.args.b
-second c =
-    read_is_lem (value c.args.kind c.args.b) c.read_value-in-Legal.result c.read_value-in-Legal.ensures c.in-Legal-read_value.y c.in-Legal-read_value.is
+second : (c : In_ok-y) → value_is c.in_ok-y.y ≡ value c.args.kind c.args.b
+second c = read_is_lem (value c.args.kind c.args.b) c.read_value-2.result c.read_value-2.ensures c.in_ok-y.y c.in_ok-y.was
 
-pub minus-requires : goal.minus-requires
-minus-requires c =
-    alike c.args.kind c.args.a c.args.b c.in-Legal.x c.in-Legal-read_value.y (first (goal.at.minus-requires c).In-Legal) (second (goal.at.minus-requires c).In-Legal-read_value) c.requires.0 c.requires.1
+pub returns-in_err-x : goal.returns-in_err-x
+returns-in_err-x c =
+    absurd (rw (read_illegal (value c.args.kind c.args.a) c.read_value.result c.read_value.ensures c.in_err-x.was) at c.requires.0)
 
-pub plus-requires : goal.plus-requires
-plus-requires c =
-    alike c.args.kind c.args.a c.args.b c.in-Legal.x c.in-Legal-read_value.y (first (goal.at.plus-requires c).In-Legal) (second (goal.at.plus-requires c).In-Legal-read_value) c.requires.0 c.requires.1
+pub returns-in_err-y : goal.returns-in_err-y
+returns-in_err-y c =
+    absurd (rw (read_illegal (value c.args.kind c.args.b) c.read_value-2.result c.read_value-2.ensures c.in_err-y.was) at c.requires.1)
 
-pub returns-then-subtract : goal.returns-then-subtract
-returns-then-subtract c =
-    c.minus.ensures ∙ subtracted c.args.kind c.args.a c.args.b c.in-Legal.x c.in-Legal-read_value.y (first (goal.at.returns-then-subtract c).In-Legal) (second (goal.at.returns-then-subtract c).In-Legal-read_value) c.args.subtract c.if-subtract.true
+pub sum-requires : goal.sum-requires
+sum-requires c = alike c.args.kind c.args.a c.args.b c.in_ok-x.x c.in_ok-y.y (first c) (second c) c.requires.0 c.requires.1
 
-pub returns-else-subtract : goal.returns-else-subtract
-returns-else-subtract c =
-    c.plus.ensures ∙ added c.args.kind c.args.a c.args.b c.in-Legal.x c.in-Legal-read_value.y (first (goal.at.returns-else-subtract c).In-Legal) (second (goal.at.returns-else-subtract c).In-Legal-read_value) c.args.subtract c.if-subtract.false
-
-pub returns-in-Illegal-read_value : goal.returns-in-Illegal-read_value
-returns-in-Illegal-read_value c =
-    absurd (rw (read_illegal (value c.args.kind c.args.b) c.read_value-in-Legal.result c.read_value-in-Legal.ensures c.in-Illegal-read_value.is) at c.requires.1)
-
-pub returns-in-Illegal : goal.returns-in-Illegal
-returns-in-Illegal c =
-    absurd (rw (read_illegal (value c.args.kind c.args.a) c.read_value.result c.read_value.ensures c.in-Illegal.is) at c.requires.0)
+pub returns : goal.returns
+returns c =
+    let at = (goal.at.returns c).In_ok-y in
+    c.sum.ensures ∙ rw (first at, second at)

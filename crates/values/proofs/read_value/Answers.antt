@@ -7,7 +7,7 @@ pub float_from_bits-result : goal.float_from_bits-result
 float_from_bits-result c = no_nan_bits c.args.bits (omega (arith, c.if-bits-lt-INFINITE.true))
 
 pub returns-in-0 : goal.returns-in-0
-returns-in-0 c = reads_whole c.args.bits c.ranges.bits c.args.kind c.in-0.is c.whole_from.result c.whole_from.ensures
+returns-in-0 c = reads_whole c.args.bits c.ranges.bits c.args.kind c.in-0.is c.cast_signed.result c.cast_signed.ensures
 
 pub returns-then-bits-lt-NAME_NUMBERS : goal.returns-then-bits-lt-NAME_NUMBERS
 returns-then-bits-lt-NAME_NUMBERS c = reads_name c.args.bits c.ranges.bits c.args.kind c.in-1.is c.if-bits-lt-NAME_NUMBERS.true
@@ -25,4 +25,4 @@ pub returns-else-bits-lt-INFINITE : goal.returns-else-bits-lt-INFINITE
 returns-else-bits-lt-INFINITE c = not_finite c.args.bits c.ranges.bits c.args.kind c.in-2.is c.if-bits-lt-INFINITE.false
 
 pub returns-in_default : goal.returns-in_default
-returns-in_default c = no_kind c.args.bits c.ranges.bits c.args.kind c.in_default.in_default-own.rest.0.0.1 c.in_default.in_default-own.rest.0.1 c.in_default.in_default-own.rest.1
+returns-in_default c = no_kind c.args.bits c.ranges.bits c.args.kind (λ z. omega arith) (λ z. omega arith) (λ z. omega arith)
