@@ -106,7 +106,8 @@ pub fn process_waits(waiting: &[u8], n: usize, process: u16) -> bool
         words::WAITING_BODY_AT + words::PROCESS_AT,
         words::PROCESS_WIDTH,
         u32::from(process),
-    ) < n
+    )
+    .is_some()
 }
 
 // A waiting statement's row: "position, body length 2, body".

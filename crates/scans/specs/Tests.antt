@@ -8,12 +8,13 @@ use Rattle.std.proofs.Math.Bool.{Bool}
 use mathlib.Core.List.Memᴰ
 use mathlib.Core.List.{List, [], ◌∷◌, map}
 use Rattle.std.proofs.Math.Dec.{T, leb, leb→le, ltb→lt, lt→ltb}
-use borrow.Author.Tests.{eq-eqb, ne_eqb, le-leb, lt-leb}
+use borrow.Author.Tests.{eq-eqb, ne_eqb, le-leb}
 use Rattle.basis.specs.Logic.{and_l, and_r, both}
 use Rattle.basis.specs.Lists.{all, any, pairwise, pieces}
 use Rattle.basis.specs.ListLaws.{Each, all_at, all_of}
 use Rattle.basis.specs.RestLaws.{Passed, passed_none, passed_here, passed_more, passed_all}
 use Rattle.basis.specs.Numbers.{number_at}
+use Rattle.words.specs.ZeroLaws.{and_assoc}
 use Rattle.sections.specs.RowLaws.{number_of_row}
 
 -- ---- tests
@@ -112,11 +113,8 @@ module _ {A : Type 0} (f : A → ℕ) where
 
       -- the number that was read is its
       module _ (x : ℕ) (h : i < length l) (q : x ≡ f (get_or l i none)) where
-        pub climb_low : x < low → false ≡ ascends f least most l
-        climb_low b = sym (next h ∙ rw (← q, lt-leb low x b))
-
-        pub climb_high : low ≤ x → most < x → false ≡ ascends f least most l
-        climb_high b a = sym (next h ∙ rw (← q, le-leb low x b, lt-leb x most a))
+        pub climb_out : (leb low x && leb x most) ≡ false → false ≡ ascends f least most l
+        climb_out o = sym (next h ∙ rw (← q) (sym (and_assoc (leb low x) (leb x most) _) ∙ ap (λ (b : Bool). b && ascends f (suc x) most (drop (i + 1) l)) o))
 
         pub climb_more : low ≤ x → x ≤ most → Climbing least most l (x + 1) (i + 1)
         unfolding ascends

@@ -2,25 +2,24 @@
 #![tactic(auto)]
 
 ghost use Rattle.std.specs.Prelude.{◌≡◌, ◌+◌, ◌≤◌, ◌<◌, [], drop, get_or};
+ghost use Rattle.basis.specs.Choice.{given};
 ghost use Rattle.basis.specs.Lists.{all, pairwise, pieces};
 ghost use Rattle.basis.specs.Numbers.{number_at};
 ghost use Rattle.basis.specs.Sizes.{most_width};
-ghost use Rattle.sections.specs.Rows.{has, index_of, HasRows, unused_zero};
+ghost use Rattle.sections.specs.Rows.{has, first_place, HasRows, unused_zero};
 ghost use Rattle.scans.specs.Tests.{ascends, differ};
 
-// The index of the first of n rows that has this number in that place; n, where none has.
-pub fn find(rows: &[u8], size: usize, n: usize, at: usize, w: usize, value: u32) -> usize
+// The index of the first of n rows that has this number in that place.
+pub fn find(rows: &[u8], size: usize, n: usize, at: usize, w: usize, value: u32) -> Option<usize>
     requires { HasRows size rows.now n × (at + w ≤ size) × (w ≤ most_width) }
-    ensures { result ≡ index_of (has at w value) (pieces n size rows.now) }
+    ensures { given result ≡ first_place (has at w value) (pieces n size rows.now) }
 {
-    let mut i = 0;
-    while i < n {
+    for i in 0..n {
         if sections::field(rows, size, n, i, at, w) == value {
-            return i;
+            return Some(i);
         }
-        i += 1;
     }
-    i
+    None
 }
 
 // Whether the numbers in that place of n rows rise, none below least, none above most.
@@ -37,17 +36,12 @@ pub fn rises(
     ensures { result ≡ ascends (number_at at w) least most (pieces n size rows.now) }
 {
     let mut low = least;
-    let mut i = 0;
-    while i < n {
+    for i in 0..n {
         let number = sections::field(rows, size, n, i, at, w) as usize;
-        if number < low {
-            return false;
-        }
-        if most < number {
+        if !(low..=most).contains(&number) {
             return false;
         }
         low = number + 1;
-        i += 1;
     }
     true
 }
@@ -58,12 +52,10 @@ fn is_alone(rows: &[u8], size: usize, n: usize, i: usize, at: usize, w: usize) -
     ensures { result ≡ all (differ at w (get_or (pieces n size rows.now) i [])) (drop (i + 1) (pieces n size rows.now)) }
 {
     let number = sections::field(rows, size, n, i, at, w);
-    let mut j = i + 1;
-    while j < n {
+    for j in i + 1..n {
         if sections::field(rows, size, n, j, at, w) == number {
             return false;
         }
-        j += 1;
     }
     true
 }
@@ -73,12 +65,10 @@ pub fn are_apart(rows: &[u8], size: usize, n: usize, at: usize, w: usize) -> boo
     requires { HasRows size rows.now n × (at + w ≤ size) × (w ≤ most_width) }
     ensures { result ≡ pairwise (differ at w) (pieces n size rows.now) }
 {
-    let mut i = 0;
-    while i < n {
+    for i in 0..n {
         if !is_alone(rows, size, n, i, at, w) {
             return false;
         }
-        i += 1;
     }
     true
 }

@@ -38,14 +38,10 @@ pub fn drop_rows(rows: &mut [u8], size: usize, n: usize, at: usize, w: usize, va
     ensures { Rows (length rows.old) size rows.new result (keep (lacks at w value) (pieces n size rows.old)) }
 {
     let mut m = 0;
-    let mut next = 0;
-    while next < n {
-        if field(rows, size, n, next, at, w) == value {
-            next += 1;
-        } else {
+    for next in 0..n {
+        if field(rows, size, n, next, at, w) != value {
             spans::move_row(rows, m * size, next * size, size);
             m += 1;
-            next += 1;
         }
     }
     spans::clear(rows, m * size, (n - m) * size);

@@ -9,4 +9,4 @@ pub find-requires : goal.find-requires
 find-requires c = (holds_room waiting_shape _ _ _ c.requires, omega arith, omega arith)
 
 pub returns : goal.returns
-returns c = rw (← c.from.ensures) (waiting_is _ _ _ _ c.requires c.find.ensures)
+returns c = rw c.from.ensures at (waiting_is _ _ _ _ _ c.requires c.find.ensures c.is_some.ensures)

@@ -1,5 +1,4 @@
 -- `scans::find` meets its contract. Assumes nothing.
-use Prim.Native.Nat.{◌-◌}
 use Rattle.basis.specs.Lists.{pieces}
 use Rattle.sections.specs.Rows.{has}
 use Rattle.sections.specs.Loops.{Looking}
@@ -7,6 +6,3 @@ use Rattle.scans.proofs.find.Given as goal
 
 abbrev pub invariant-loop-i : goal.invariant-loop-i
 invariant-loop-i l = Looking (has l.at l.w l.value) (pieces l.n l.size l.rows) l.i
-
-abbrev pub decreases-loop-i : goal.decreases-loop-i
-decreases-loop-i l = l.n - l.i

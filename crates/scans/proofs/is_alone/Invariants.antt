@@ -1,5 +1,5 @@
 -- `scans::is_alone` meets its contract. Assumes nothing.
-use Prim.Native.Nat.{◌+◌, ◌-◌}
+use Prim.Native.Nat.{◌+◌}
 use mathlib.Core.List.{[]}
 use lib.ListN.{get_or}
 use Rattle.basis.specs.Lists.{pieces}
@@ -8,6 +8,3 @@ use Rattle.scans.proofs.is_alone.Given as goal
 
 abbrev pub invariant-loop-j : goal.invariant-loop-j
 invariant-loop-j l = Passing (differ l.at l.w (get_or (pieces l.n l.size l.rows) l.i [])) (pieces l.n l.size l.rows) (l.i + 1) l.j
-
-abbrev pub decreases-loop-j : goal.decreases-loop-j
-decreases-loop-j l = l.n - l.j

@@ -1,5 +1,4 @@
 -- `scans::rises` meets its contract. Assumes nothing.
-use Prim.Native.Nat.{◌-◌}
 use Rattle.basis.specs.Lists.{pieces}
 use Rattle.basis.specs.Numbers.{number_at}
 use Rattle.scans.specs.Tests.{Climbing}
@@ -7,6 +6,3 @@ use Rattle.scans.proofs.rises.Given as goal
 
 abbrev pub invariant-loop-i : goal.invariant-loop-i
 invariant-loop-i l = Climbing (number_at l.at l.w) l.least l.most (pieces l.n l.size l.rows) l.low l.i
-
-abbrev pub decreases-loop-i : goal.decreases-loop-i
-decreases-loop-i l = l.n - l.i

@@ -3,6 +3,7 @@ use native.Mathlib.Omega.{arith}
 use mathlib.Core.Path.{◌∙◌}
 use Rattle.sections.specs.Loops.{sift_start, sift_is, sift_not, sift_room, sift_left, sift_out, sift_in, sift_end}
 use Rattle.sections.proofs.drop_rows.Goals as goal
+use Rattle.sections.proofs.drop_rows.Goals.{then-field-value, else-field-value}
 
 pub loop-next-init : goal.loop-next-init
 loop-next-init c = sift_start _ _ _ _
@@ -10,12 +11,6 @@ loop-next-init c = sift_start _ _ _ _
 pub field-requires : goal.field-requires
 field-requires c =
     ((sift_left _ _ _ _ c.requires.0 _ _ _ c.loop-next.invariant).1, c.loop-next-test.true, c.requires.1, c.requires.2)
-
-pub loop-next-preserved-then-field-value : goal.loop-next-preserved-then-field-value
-loop-next-preserved-then-field-value c =
-    let h = c.loop-next.invariant in
-    let below = c.loop-next-test.true in
-    sift_out _ _ _ _ c.requires.0 _ _ _ h below (sift_is _ _ _ _ c.requires.0 _ _ _ h _ _ _ _ below c.requires.1 c.field.ensures c.if-field-value.true)
 
 pub overflow_mul-m : goal.overflow_mul-m
 overflow_mul-m c = omega (arith, sift_room _ _ _ _ c.requires.0 _ _ _ c.loop-next.invariant c.loop-next-test.true)
@@ -33,7 +28,14 @@ pub loop-next-preserved : goal.loop-next-preserved
 loop-next-preserved c =
     let h = c.loop-next.invariant in
     let below = c.loop-next-test.true in
-    sift_in _ _ _ _ c.requires.0 _ _ _ h _ below (sift_not _ _ _ _ c.requires.0 _ _ _ h _ _ _ _ below c.requires.1 c.field.ensures c.if-field-value.false) c.move_row.ensures
+    elim c.if-field-value.branch [
+      | then-field-value w ↦
+          rw (w.rows-is, w.m-is)
+          (sift_in _ _ _ _ c.requires.0 _ _ _ h _ below (sift_not _ _ _ _ c.requires.0 _ _ _ h _ _ _ _ below c.requires.1 c.field.ensures w.if-field-value.true) w.move_row.ensures)
+      | else-field-value w ↦
+          rw (w.rows-is, w.m-is)
+          (sift_out _ _ _ _ c.requires.0 _ _ _ h below (sift_is _ _ _ _ c.requires.0 _ _ _ h _ _ _ _ below c.requires.1 c.field.ensures w.if-field-value.false))
+    ]
 
 pub overflow_mul-m-2 : goal.overflow_mul-m-2
 overflow_mul-m-2 c = omega (arith, sift_left _ _ _ _ c.requires.0 _ _ _ c.loop-next.invariant)
