@@ -74,8 +74,9 @@ turned : (a b c : ℕ) → c % sign ≡ b % sign → leb sign c ≡ not (leb sig
 unfolding scaled
 turned a b c e f = ap (λ (z : ℤ). scaled a +ℤ z) (scaled_turned b c e f ∙ sym (neg_signed (leb sign b) (magnitude (b % sign))))
 
-pub sign_set : (a b : ℕ) → b < sign → scaled a +ℤ scaled (b + sign) ≡ scaled a -ℤ scaled b
-sign_set a b h = turned a b (b + sign) (omega arith) (le-leb sign (b + sign) (omega arith) ∙ ap not (sym (lt-leb sign b h)))
-
-pub sign_cleared : (a b : ℕ) → sign ≤ b → b < 2 ^ 32 → scaled a +ℤ scaled (b - sign) ≡ scaled a -ℤ scaled b
-sign_cleared a b h w = turned a b (b - sign) (omega arith) (lt-leb sign (b - sign) (omega arith) ∙ ap not (sym (le-leb sign b h)))
+pub sign_turned : (a b : ℕ) → b < 2 ^ 32 → scaled a +ℤ scaled ((b + sign) % 2 ^ 32) ≡ scaled a -ℤ scaled b
+sign_turned a b w = turned a b ((b + sign) % 2 ^ 32) (omega arith) (go (leb sign b) refl)
+  where
+    go : (t : Bool) → leb sign b ≡ t → leb sign ((b + sign) % 2 ^ 32) ≡ not t
+    go true e = lt-leb sign ((b + sign) % 2 ^ 32) (omega (arith, leb-true sign b e))
+    go false e = le-leb sign ((b + sign) % 2 ^ 32) (omega (arith, leb-false sign b e))

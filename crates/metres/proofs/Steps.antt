@@ -104,8 +104,8 @@ raised (suc n) place l p o =
 pub some_zeros : (n : ℕ) → n < 2 ^ 50 → 0 < count_leading_zeros 64 n
 some_zeros n l = (raised n 0 l (omega arith) (inr refl)).0
 
-pub step : (n place drop : ℕ) → n < 2 ^ 50 → place < 254 → (0 < n) ⊎ (place ≡ 0) → drop ≡ max 39 (count_leading_zeros 64 n - 1 - place) → Step n place (count_leading_zeros 64 n - 1) drop
-step n place drop l p o e = subst (Step n place (count_leading_zeros 64 n - 1)) (sym e) (raised n place l p o).1
+pub step : (n place past drop : ℕ) → n < 2 ^ 50 → place < 254 → (0 < n) ⊎ (place ≡ 0) → past ≡ count_leading_zeros 64 n - 1 - place → drop ≡ max 39 past → Step n place (count_leading_zeros 64 n - 1) drop
+step n place past drop l p o d e = subst (Step n place (count_leading_zeros 64 n - 1)) (sym (e ∙ ap (max 39) d)) (raised n place l p o).1
 
 -- ---- two values without their signs, the digits of the larger one moved to the place of the smaller
 

@@ -31,20 +31,21 @@ const SPARE: u32 = 39;
 fn place_of(p: u32) -> u32
     ensures { result ≡ place p }
 {
-    if p < LEAD { 0 } else { p / LEAD - 1 }
+    (p / LEAD).saturating_sub(1)
 }
 
 fn digits_of(p: u32) -> u64
     ensures { result ≡ digits p }
 {
     if p < LEAD {
-        p as u64
+        u64::from(p)
     } else {
-        (p % LEAD + LEAD) as u64
+        u64::from(p % LEAD + LEAD)
     }
 }
 
 // n / 2 ^ drop to the nearest whole number, a tie to the even one: just less than a half is added, and a half where the quotient is odd.
+// The library's divisions round down or up.
 fn nearest(n: u64, drop: u32) -> u64
     requires drop_nonzero { 0 < drop }
     requires drop_bound { drop < 64 }
@@ -55,36 +56,18 @@ fn nearest(n: u64, drop: u32) -> u64
     (n + ((1 << (drop - 1)) - 1) + odd) >> drop
 }
 
-// How many of 63 digits are dropped: all but 24, or more where the last one kept would be below the lowest place.
-fn dropped(up: u32, place: u32) -> u32
-    requires { place < 254 }
-    ensures { result ≡ max 39 (up - place) }
-{
-    if up < place + SPARE {
-        SPARE
-    } else {
-        up - place
-    }
-}
-
-// What is too large has an infinity's bits.
-fn capped(bits: u32) -> u32
-    ensures { result ≡ min bits infinite }
-{
-    if bits < INFINITE { bits } else { INFINITE }
-}
-
-// The bits of the value nearest to n * 2 ^ place. n is moved up to 63 digits; so many are dropped that 24 are kept, or fewer at the lowest place.
+// The bits of the value nearest to n * 2 ^ place. n is moved up to 63 digits; all but 24 are dropped, or more where the last one kept would be below
+// the lowest place. What is too large has an infinity's bits.
 fn rounded(n: u64, place: u32) -> u32
     requires n_bound { n < 2 ^ 50 }
     requires place_bound { place < 254 }
     requires fact { (0 < n) ⊎ (place ≡ 0) }
     ensures { result ≡ nearest_bits (n * 2 ^ place) }
 {
-    let up = u64::leading_zeros(n) - 1;
-    let drop = dropped(up, place);
+    let up = n.leading_zeros() - 1;
+    let drop = SPARE.max(up.saturating_sub(place));
     let bits = (place + drop - up) * LEAD + nearest(n << up, drop) as u32;
-    capped(bits)
+    bits.min(INFINITE)
 }
 
 // x - y where `minus` is set, else x + y.
@@ -131,12 +114,12 @@ fn onto(a: u32, b: u32) -> u32
     }
 }
 
-// a + b: the larger one is put first.
-fn sum(a: u32, b: u32) -> u32
+// a + b: to nearest, ties to even, subnormals kept; an infinity where it is too large. The larger one is put first.
+pub fn add(a: u32, b: u32) -> u32
     requires sign_bound { a % sign < infinite }
     requires sign_bound_2 { b % sign < infinite }
     requires fact { a ≡ sign → ⊥ }
-    ensures { result ≡ bits_of (scaled a +ℤ scaled b) }
+    ensures { result ≡ to_bits binary32 (Ieee.add binary32 (of_bits binary32 a) (of_bits binary32 b)) }
 {
     if a % SIGN < b % SIGN {
         onto(b, a)
@@ -145,26 +128,12 @@ fn sum(a: u32, b: u32) -> u32
     }
 }
 
-// a + b: to nearest, ties to even, subnormals kept; an infinity where it is too large.
-pub fn add(a: u32, b: u32) -> u32
-    requires sign_bound { a % sign < infinite }
-    requires sign_bound_2 { b % sign < infinite }
-    requires fact { a ≡ sign → ⊥ }
-    ensures { result ≡ to_bits binary32 (Ieee.add binary32 (of_bits binary32 a) (of_bits binary32 b)) }
-{
-    sum(a, b)
-}
-
-// a - b: the sum with the sign of b turned.
+// a - b: the sum with the sign of b turned, its highest bit.
 pub fn subtract(a: u32, b: u32) -> u32
     requires sign_bound { a % sign < infinite }
     requires sign_bound_2 { b % sign < infinite }
     requires fact { a ≡ sign → ⊥ }
     ensures { result ≡ to_bits binary32 (Ieee.sub binary32 (of_bits binary32 a) (of_bits binary32 b)) }
 {
-    if b < SIGN {
-        sum(a, b + SIGN)
-    } else {
-        sum(a, b - SIGN)
-    }
+    add(a, b.wrapping_add(SIGN))
 }

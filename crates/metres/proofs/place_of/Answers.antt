@@ -3,10 +3,6 @@ use native.Mathlib.Omega.{arith}
 use Rattle.rounding.specs.Parts.{place}
 use Rattle.metres.proofs.place_of.Goals as goal
 
-pub returns-then-p-lt-LEAD : goal.returns-then-p-lt-LEAD
+pub returns : goal.returns
 unfolding place
-returns-then-p-lt-LEAD c = omega arith
-
-pub returns-else-p-lt-LEAD : goal.returns-else-p-lt-LEAD
-unfolding place
-returns-else-p-lt-LEAD c = omega arith
+returns c = omega arith
