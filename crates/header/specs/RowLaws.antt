@@ -1,5 +1,5 @@
 -- The laws of the parts: a run's bytes are its parts, a part that is written leaves every other, what a row of the header says, and the run whose row or section was written. Assumes nothing.
-use Rattle.std.specs.Prelude.{◌≡◌, refl, ℕ, zero, suc, ◌+◌, ◌-◌, ◌*◌, ◌≤◌, ◌<◌, Bool, length, get_or, set}
+use Rattle.std.specs.Prelude.{◌≡◌, refl, ℕ, zero, suc, ◌+◌, ◌-◌, ◌*◌, ◌≤◌, ◌<◌, ◌%◌, Bool, length, get_or, set}
 use Rattle.std.proofs.Math.Path.{sym}
 use Rattle.std.proofs.Common.{ap, ◌∙◌, zero-add, arith, get_or-set_same, get_or-set_other}
 use mathlib.Core.List.{List, [], ◌∷◌, map, flat_map, append-nil}
@@ -16,7 +16,7 @@ use Rattle.layout.specs.States.{hosts_bytes, owed_bytes, header_bytes, space_byt
 use Rattle.layout.specs.StateLaws.{area_length, encode_length}
 use Rattle.layout.specs.Stored.{Stored}
 use Rattle.words.specs.Over.{over}
-use Rattle.words.specs.OverLaws.{over_lent}
+use Rattle.words.specs.OverLaws.{over_lent, over_set}
 use Rattle.words.specs.WordLaws.{number_at_1}
 use Rattle.sections.specs.Rows.{joined}
 use Rattle.sections.specs.Parts.{place_in, part_written}
@@ -108,6 +108,16 @@ owed_changed {b} {b'} {s} h i us low f e =
     parts_stored b' (with_owed s (set s.owed i us)) (rw ((owed_place i low).1, owed_parts s i us low (omega (arith, h.fit.owed.masks.places))) at all) f
 
 -- ---- what the rows say
+
+-- one byte of it, as a number, and written
+pub byte_read : (b : List ℕ) (at r : ℕ) → at < length b → r ≡ get_or b at 0 → r ≡ number_at at 1 b
+byte_read b at r h e = e ∙ sym (number_at_1 at b h)
+
+pub byte_row : (b : List ℕ) (at n : ℕ) → at < length b → n < 256 → set b at n ≡ over b at (big_endian 1 n) 1
+unfolding big_endian
+byte_row b at n h small =
+    let e : n % 256 ≡ n = omega arith in
+    over_set b at n h ∙ rw e
 
 pub last_says : (b : List ℕ) → number_at last_at position_width b ≡ (decode b).last
 unfolding decode

@@ -1,5 +1,5 @@
 -- A section as it is lent: what it says, its length and its bytes. When bytes are those of the run that they say: mark and unused bytes of the header are, and each section is. Assumes nothing.
-use Rattle.std.specs.Prelude.{◌≡◌, ◌↔◌, Bool, ◌&&◌, ◌||◌, drop, leb}
+use Rattle.std.specs.Prelude.{◌≡◌, ◌↔◌, Bool, ◌&&◌, ◌||◌, drop}
 use Rattle.std.proofs.Math.Path.{refl, sym, ap}
 use Rattle.std.proofs.Common.{ap₂, ◌∙◌, arith, true≢false, length-drop, take-take, drop-cons, length-take-le, leb→le}
 use Prim.Native.Nat.{ℕ, zero, suc, ◌+◌, ◌-◌, ◌*◌, ◌≤◌, ◌<◌}
@@ -9,7 +9,7 @@ use Rattle.std.proofs.Math.ListN.{length, take, get_or}
 use Rattle.std.proofs.Math.Seq.{take_all}
 use Rattle.std.proofs.Math.Dec.{T}
 use Rattle.std.proofs.Math.Pow.{are_bytes}
-use borrow.Author.Tests.{le-leb, lt-leb, lt-ltb, le-ltb}
+use borrow.Author.Tests.{lt-ltb, le-ltb}
 use Rattle.basis.specs.Logic.{and_l, and_r, both, is_true, true_is}
 use Rattle.basis.specs.Lists.{all, any, count_from, zeros, pieces, same_bytes}
 use Rattle.basis.specs.ListLaws.{same_refl, same→eq}
@@ -17,7 +17,7 @@ use Rattle.basis.specs.IndexLaws.{map_drop}
 use Rattle.basis.specs.Numbers.{big_endian, number_at, mask, bits}
 use Rattle.basis.specs.NumberLaws.{number_at_lt, bytes_take, bytes_drop}
 use Rattle.basis.specs.PadLaws.{mask_bits}
-use Rattle.basis.specs.Sizes.{mark_width, position_width, mask_width, count_width, next_width, tuple_count_width, hosts, most_monitors, space_numbers, most_spaces, most_tuples, most_waiting, last_at, mask_at, monitors_at, next_at, space_count_at, tuple_count_at, waiting_count_at, owed_at, header_used, header_size, space_size, tuple_size, waiting_size, spaces_size, tuples_size, waiting_all_size, spaces_at, tuples_at, waiting_at, state_size}
+use Rattle.basis.specs.Sizes.{mark_width, position_width, mask_width, count_width, next_width, tuple_count_width, hosts, most_monitors, most_spaces, most_tuples, most_waiting, last_at, mask_at, monitors_at, next_at, space_count_at, tuple_count_at, waiting_count_at, owed_at, header_used, header_size, space_size, tuple_size, waiting_size, spaces_size, tuples_size, waiting_all_size, spaces_at, tuples_at, waiting_at, state_size}
 use Rattle.model.specs.Run.{Run, has_room, none_owed, owes_some}
 use Rattle.model.specs.Valid.{counts_fit, owed_to_given, owes_only_full}
 use Rattle.layout.specs.States.{state_mark, space_bytes, tuple_bytes, waiting_bytes, area, encode, byte_at, space_read, tuple_read, waiting_read, entries, hosts_at, decode}
@@ -207,43 +207,12 @@ module _ (s : Run) (t : ℕ) (et : t ≡ length s.tuples) where
 
 -- ---- what the tests of the header show
 
-module _ (s : Run) (m : ℕ) (em : m ≡ s.monitors) where
-  pub no_monitors : most_monitors < m → false ≡ counts_fit s
-  unfolding counts_fit
-  no_monitors h = rw (← em, lt-leb m most_monitors h)
+-- two tests, of which the second is made only where the first holds
+pub and_then : (a v A B : Bool) → a ≡ A → a ≡ true → v ≡ B → v ≡ (A && B)
+and_then a v A B e t f = f ∙ ap (λ (x : Bool). x && B) (sym t ∙ e)
 
-  module _ (fm : m ≤ most_monitors) (x : ℕ) (ex : x ≡ s.next) where
-    pub no_next : space_numbers < x → false ≡ counts_fit s
-    unfolding counts_fit
-    no_next h = rw (← em, ← ex, le-leb m most_monitors fm, lt-leb x space_numbers h)
-
-    module _ (fx : x ≤ space_numbers) (n : ℕ) (en : n ≡ length s.spaces) where
-      pub no_spaces : most_spaces < n → false ≡ counts_fit s
-      unfolding counts_fit
-      no_spaces h = rw (← em, ← ex, ← en, le-leb m most_monitors fm, le-leb x space_numbers fx, lt-leb n most_spaces h)
-
-      module _ (fn : n ≤ most_spaces) (t : ℕ) (et : t ≡ length s.tuples) where
-        pub no_tuples : most_tuples < t → false ≡ counts_fit s
-        unfolding counts_fit
-        no_tuples h = rw (← em, ← ex, ← en, ← et, le-leb m most_monitors fm, le-leb x space_numbers fx, le-leb n most_spaces fn, lt-leb t most_tuples h)
-
-        pub then_waiting : t ≤ most_tuples → (w : ℕ) → w ≡ length s.waiting → leb w most_waiting ≡ counts_fit s
-        unfolding counts_fit
-        then_waiting ft w ew = rw (← em, ← ex, ← en, ← et, ← ew, le-leb m most_monitors fm, le-leb x space_numbers fx, le-leb n most_spaces fn, le-leb t most_tuples ft)
-
-module _ (b : List ℕ) (r : Bool) (er : r ≡ same_bytes state_mark (take mark_width b)) where
-  pub no_mark : r ≡ false → false ≡ header_legal b
-  unfolding header_legal
-  no_mark z = rw (sym er ∙ z)
-
-  module _ (yes : r ≡ true) (l : Bool) (el : l ≡ counts_fit (decode b)) where
-    pub no_limits : l ≡ false → false ≡ header_legal b
-    unfolding header_legal
-    no_limits q = rw (sym er ∙ yes, sym el ∙ q)
-
-    pub then_rest : l ≡ true → (debts_fit (decode b) && zeros_at b header_used (header_size - header_used)) ≡ header_legal b
-    unfolding header_legal
-    then_rest q = rw (sym er ∙ yes, sym el ∙ q)
+pub and_else : (a v A B : Bool) → a ≡ A → a ≡ false → v ≡ a → v ≡ (A && B)
+and_else a v A B e t f = f ∙ (t ∙ ap (λ (x : Bool). x && B) (sym t ∙ e))
 
 -- the tests, one by one
 pub record Header (b : List ℕ) : Type 0 where

@@ -25,14 +25,14 @@ pub fn last(state: &[u8]) -> u32
     requires { header_size ≤ length state.now }
     ensures { (result ≡ (decode state.now).last) × (result ≡ number_at last_at position_width state.now) }
 {
-    words::number(state, words::LAST_AT, words::POSITION_WIDTH)
+    words::word4(state, words::LAST_AT)
 }
 
 pub fn set_last(state: &mut [u8], position: u32)
     requires { header_size ≤ length state.old }
     ensures { state.new ≡ with_row last_part position state.old }
 {
-    words::put_number(state, words::LAST_AT, words::POSITION_WIDTH, position);
+    words::put4(state, words::LAST_AT, position);
 }
 
 // "hosts-up mask (2, bit h for host h)".
@@ -40,14 +40,14 @@ pub fn hosts(state: &[u8]) -> u16
     requires { header_size ≤ length state.now }
     ensures { (bits hosts result ≡ (decode state.now).up) × (result ≡ number_at mask_at mask_width state.now) }
 {
-    words::number(state, words::MASK_AT, words::MASK_WIDTH) as u16
+    words::word2(state, words::MASK_AT)
 }
 
 pub fn set_hosts(state: &mut [u8], mask: u16)
     requires { header_size ≤ length state.old }
     ensures { state.new ≡ with_row mask_part mask state.old }
 {
-    words::put_number(state, words::MASK_AT, words::MASK_WIDTH, mask as u32);
+    words::put2(state, words::MASK_AT, mask);
 }
 
 // "monitors".
@@ -55,14 +55,14 @@ pub fn monitors(state: &[u8]) -> usize
     requires { header_size ≤ length state.now }
     ensures { (result ≡ (decode state.now).monitors) × (result ≡ number_at monitors_at count_width state.now) }
 {
-    words::number(state, words::MONITORS_AT, words::COUNT_WIDTH) as usize
+    usize::from(state[words::MONITORS_AT])
 }
 
 pub fn set_monitors(state: &mut [u8], n: usize)
     requires { (header_size ≤ length state.old) × (n ≤ most_monitors) }
     ensures { state.new ≡ with_row monitors_part n state.old }
 {
-    words::put_number(state, words::MONITORS_AT, words::COUNT_WIDTH, n as u32);
+    state[words::MONITORS_AT] = n as u8;
 }
 
 // "The next number takes four bytes in the header".
@@ -70,14 +70,14 @@ pub fn next(state: &[u8]) -> u32
     requires { header_size ≤ length state.now }
     ensures { (result ≡ (decode state.now).next) × (result ≡ number_at next_at next_width state.now) }
 {
-    words::number(state, words::NEXT_AT, words::NEXT_WIDTH)
+    words::word4(state, words::NEXT_AT)
 }
 
 pub fn set_next(state: &mut [u8], number: u32)
     requires { header_size ≤ length state.old }
     ensures { state.new ≡ with_row next_part number state.old }
 {
-    words::put_number(state, words::NEXT_AT, words::NEXT_WIDTH, number);
+    words::put4(state, words::NEXT_AT, number);
 }
 
 // "counts of spaces".
@@ -85,14 +85,14 @@ pub fn space_count(state: &[u8]) -> usize
     requires { header_size ≤ length state.now }
     ensures { (result ≡ length (decode state.now).spaces) × (result ≡ number_at space_count_at count_width state.now) }
 {
-    words::number(state, words::SPACE_COUNT_AT, words::COUNT_WIDTH) as usize
+    usize::from(state[words::SPACE_COUNT_AT])
 }
 
 pub fn set_space_count(state: &mut [u8], n: usize)
     requires { (header_size ≤ length state.old) × (n ≤ most_spaces) }
     ensures { state.new ≡ with_row space_count_part n state.old }
 {
-    words::put_number(state, words::SPACE_COUNT_AT, words::COUNT_WIDTH, n as u32);
+    state[words::SPACE_COUNT_AT] = n as u8;
 }
 
 // "tuples (2)".
@@ -100,19 +100,14 @@ pub fn tuple_count(state: &[u8]) -> usize
     requires { header_size ≤ length state.now }
     ensures { (result ≡ length (decode state.now).tuples) × (result ≡ number_at tuple_count_at tuple_count_width state.now) }
 {
-    words::number(state, words::TUPLE_COUNT_AT, words::TUPLE_COUNT_WIDTH) as usize
+    usize::from(words::word2(state, words::TUPLE_COUNT_AT))
 }
 
 pub fn set_tuple_count(state: &mut [u8], n: usize)
     requires { (header_size ≤ length state.old) × (n ≤ most_tuples) }
     ensures { state.new ≡ with_row tuple_count_part n state.old }
 {
-    words::put_number(
-        state,
-        words::TUPLE_COUNT_AT,
-        words::TUPLE_COUNT_WIDTH,
-        n as u32,
-    );
+    words::put2(state, words::TUPLE_COUNT_AT, n as u16);
 }
 
 // "waiting".
@@ -120,14 +115,14 @@ pub fn waiting_count(state: &[u8]) -> usize
     requires { header_size ≤ length state.now }
     ensures { (result ≡ length (decode state.now).waiting) × (result ≡ number_at waiting_count_at count_width state.now) }
 {
-    words::number(state, words::WAITING_COUNT_AT, words::COUNT_WIDTH) as usize
+    usize::from(state[words::WAITING_COUNT_AT])
 }
 
 pub fn set_waiting_count(state: &mut [u8], n: usize)
     requires { (header_size ≤ length state.old) × (n ≤ most_waiting) }
     ensures { state.new ≡ with_row waiting_count_part n state.old }
 {
-    words::put_number(state, words::WAITING_COUNT_AT, words::COUNT_WIDTH, n as u32);
+    state[words::WAITING_COUNT_AT] = n as u8;
 }
 
 // Where the mask of place i stands.
@@ -143,14 +138,14 @@ pub fn owed(state: &[u8], i: usize) -> u16
     requires { (header_size ≤ length state.now) × (i < most_monitors) }
     ensures { (bits hosts result ≡ owed_mask (decode state.now) i) × (result ≡ number_at (owed_at + i * mask_width) mask_width state.now) }
 {
-    words::number(state, owed_at(i), words::MASK_WIDTH) as u16
+    words::word2(state, owed_at(i))
 }
 
 pub fn set_owed(state: &mut [u8], i: usize, mask: u16)
     requires { (header_size ≤ length state.old) × (i < most_monitors) }
     ensures { state.new ≡ with_row (owed_part + i) mask state.old }
 {
-    words::put_number(state, owed_at(i), words::MASK_WIDTH, mask as u32);
+    words::put2(state, owed_at(i), mask);
 }
 
 // Whether no mask has a host.
@@ -168,19 +163,11 @@ fn limits_ok(state: &[u8]) -> bool
     requires { header_size ≤ length state.now }
     ensures { result ≡ counts_fit (decode state.now) }
 {
-    if words::MOST_MONITORS < monitors(state) {
-        return false;
-    }
-    if words::SPACE_NUMBERS < next(state) {
-        return false;
-    }
-    if words::MOST_SPACES < space_count(state) {
-        return false;
-    }
-    if words::MOST_TUPLES < tuple_count(state) {
-        return false;
-    }
-    waiting_count(state) <= words::MOST_WAITING
+    monitors(state) <= words::MOST_MONITORS
+        && next(state) <= words::SPACE_NUMBERS
+        && space_count(state) <= words::MOST_SPACES
+        && tuple_count(state) <= words::MOST_TUPLES
+        && waiting_count(state) <= words::MOST_WAITING
 }
 
 // Whether all bytes from the mask of place i on are zero.
@@ -198,10 +185,10 @@ fn rest_ok(state: &[u8]) -> bool
     ensures { result ≡ (debts_fit (decode state.now) && zeros_at state.now header_used (header_size - header_used)) }
 {
     if tuple_count(state) < words::MOST_TUPLES {
-        return zero_from(state, 0);
+        zero_from(state, 0)
+    } else {
+        zero_from(state, monitors(state))
     }
-    let given = monitors(state);
-    zero_from(state, given)
 }
 
 // `TS`, every limit, the owed masks, and "All unused bytes are zero".
@@ -209,11 +196,5 @@ pub fn is_legal(state: &[u8]) -> bool
     requires { header_size ≤ length state.now }
     ensures { result ≡ header_legal state.now }
 {
-    if !words::has_mark(state, b"TS") {
-        return false;
-    }
-    if !limits_ok(state) {
-        return false;
-    }
-    rest_ok(state)
+    words::has_mark(state, b"TS") && limits_ok(state) && rest_ok(state)
 }

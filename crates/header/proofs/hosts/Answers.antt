@@ -6,4 +6,4 @@ use Rattle.header.specs.RowLaws.{hosts_say}
 use Rattle.header.proofs.hosts.Goals as goal
 
 pub returns : goal.returns
-returns c = (ap (bits hosts) c.number.ensures.0 ∙ hosts_say _, c.number.ensures.0)
+returns c = (ap (bits hosts) c.word2.ensures ∙ hosts_say _, c.word2.ensures)

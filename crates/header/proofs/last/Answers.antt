@@ -4,4 +4,4 @@ use Rattle.header.specs.RowLaws.{last_says}
 use Rattle.header.proofs.last.Goals as goal
 
 pub returns : goal.returns
-returns c = (c.number.ensures.0 ∙ last_says _, c.number.ensures.0)
+returns c = (c.word4.ensures ∙ last_says _, c.word4.ensures)

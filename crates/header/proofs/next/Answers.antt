@@ -4,4 +4,4 @@ use Rattle.header.specs.RowLaws.{next_says}
 use Rattle.header.proofs.next.Goals as goal
 
 pub returns : goal.returns
-returns c = (c.number.ensures.0 ∙ next_says _, c.number.ensures.0)
+returns c = (c.word4.ensures ∙ next_says _, c.word4.ensures)

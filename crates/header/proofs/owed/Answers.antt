@@ -9,5 +9,5 @@ use Rattle.header.proofs.owed.Goals as goal
 pub returns : goal.returns
 returns c =
     let b = c.args.state.now in
-    let read : c.number.result ≡ number_at (owed_at + c.args.i * mask_width) mask_width b = c.number.ensures.0 ∙ ap (λ (k : ℕ). number_at k mask_width b) c.owed_at.ensures in
+    let read : c.word2.result ≡ number_at (owed_at + c.args.i * mask_width) mask_width b = c.word2.ensures ∙ ap (λ (k : ℕ). number_at k mask_width b) c.owed_at.ensures in
     (ap (bits hosts) read ∙ owed_say b c.args.i c.requires.1, read)

@@ -10,4 +10,4 @@ use Rattle.header.proofs.set_owed.Goals as goal
 pub returns : goal.returns
 returns c =
     let a = c.args in
-    c.put_number.ensures ∙ ap (λ (k : ℕ). over a.state.now k (big_endian mask_width a.mask) mask_width) c.owed_at.ensures ∙ owed_row_lem a.state.now a.mask a.i c.requires.1
+    c.put2.ensures ∙ ap (λ (k : ℕ). over a.state.now k (big_endian mask_width a.mask) mask_width) c.owed_at.ensures ∙ owed_row_lem a.state.now a.mask a.i c.requires.1

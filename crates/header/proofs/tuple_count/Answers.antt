@@ -4,4 +4,4 @@ use Rattle.header.specs.RowLaws.{tuple_count_lem}
 use Rattle.header.proofs.tuple_count.Goals as goal
 
 pub returns : goal.returns
-returns c = (c.number.ensures.0 ∙ tuple_count_lem _, c.number.ensures.0)
+returns c = (c.from.ensures ∙ c.word2.ensures ∙ tuple_count_lem _, c.from.ensures ∙ c.word2.ensures)

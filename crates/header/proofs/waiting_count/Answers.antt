@@ -1,7 +1,11 @@
 -- `header::waiting_count` meets its contract. Assumes nothing.
-use mathlib.Core.Path.{◌∙◌}
-use Rattle.header.specs.RowLaws.{waiting_count}
+use Rattle.std.proofs.Common.{◌≡◌, ◌∙◌, arith}
+use Rattle.basis.specs.Numbers.{number_at}
+use Rattle.basis.specs.Sizes.{waiting_count_at, count_width}
+use Rattle.header.specs.RowLaws.{waiting_count, byte_read}
 use Rattle.header.proofs.waiting_count.Goals as goal
 
 pub returns : goal.returns
-returns c = (c.number.ensures.0 ∙ waiting_count _ c.requires, c.number.ensures.0)
+returns c =
+    let read : c.from.result ≡ number_at waiting_count_at count_width c.args.state.now = byte_read _ waiting_count_at _ (omega arith) c.from.ensures in
+    (read ∙ waiting_count _ c.requires, read)
