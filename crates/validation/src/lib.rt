@@ -18,15 +18,13 @@ fn rows_ok(tuples: &[u8], m: usize, spaces: &[u8], n: usize) -> bool
     requires { (length tuples.now ≡ tuples_size) × (m ≤ most_tuples) × IsListed spaces.now n × Rising (spaces_of spaces.now n) }
     ensures { result ≡ all (row_open (spaces_of spaces.now n)) (pieces m tuple_size tuples.now) }
 {
-    let mut i = 0;
-    while i < m {
+    for i in 0..m {
         if !wellformed::tuple_ok(tuples, i) {
             return false;
         }
         if !spaces::is_open(spaces, n, tuples::space(tuples, i)) {
             return false;
         }
-        i += 1;
     }
     true
 }
@@ -36,10 +34,7 @@ fn tuples_ok(tuples: &[u8], m: usize, spaces: &[u8], n: usize) -> bool
     requires { (length tuples.now ≡ tuples_size) × (m ≤ most_tuples) × IsListed spaces.now n × Rising (spaces_of spaces.now n) }
     ensures { result ≡ tuples_legal (spaces_of spaces.now n) tuples.now m }
 {
-    if !wellformed::unused_zero(tuples, m) {
-        return false;
-    }
-    rows_ok(tuples, m, spaces, n)
+    wellformed::unused_zero(tuples, m) && rows_ok(tuples, m, spaces, n)
 }
 
 // The waiting statements: their order, "of a process that no other entry has", each may wait, and none is ready (one walk of each body).
@@ -56,13 +51,9 @@ fn waits_ok(
     requires { IsQueued waiting.now k × IsListed spaces.now n × Rising (spaces_of spaces.now n) × (length tuples.now ≡ tuples_size) × (m ≤ most_tuples) }
     ensures { result ≡ waits_legal last (bits hosts up) (spaces_of spaces.now n) (tuples_of tuples.now m) (waiting_of waiting.now k) }
 {
-    if !queue::in_order(waiting, k, last) {
-        return false;
-    }
-    if !queue::processes_differ(waiting, k) {
-        return false;
-    }
-    waiting::all_may_wait(waiting, k, spaces, n, tuples, m, up)
+    queue::in_order(waiting, k, last)
+        && queue::processes_differ(waiting, k)
+        && waiting::all_may_wait(waiting, k, spaces, n, tuples, m, up)
 }
 
 // The sections, of bytes whose header is that of a state.
@@ -101,11 +92,5 @@ fn contents_ok(b: &[u8]) -> bool
 pub fn is_state(b: &[u8]) -> bool
     ensures { result ≡ is_state b.now }
 {
-    if b.len() != words::STATE {
-        return false;
-    }
-    if !header::is_legal(b) {
-        return false;
-    }
-    contents_ok(b)
+    b.len() == words::STATE && header::is_legal(b) && contents_ok(b)
 }

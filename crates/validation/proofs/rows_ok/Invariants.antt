@@ -1,5 +1,4 @@
--- `validation::rows_ok` meets its contract. Assumes nothing.
-use Prim.Native.Nat.{◌-◌}
+-- What the loop of `validation::rows_ok` keeps. Assumes nothing.
 use Rattle.basis.specs.Lists.{pieces}
 use Rattle.basis.specs.Sizes.{tuple_size}
 use Rattle.scans.specs.Tests.{Passing}
@@ -9,6 +8,3 @@ use Rattle.validation.proofs.rows_ok.Given as goal
 
 abbrev pub invariant-loop-i : goal.invariant-loop-i
 invariant-loop-i l = Passing (row_open (spaces_of l.spaces l.n)) (pieces l.m tuple_size l.tuples) 0 l.i
-
-abbrev pub decreases-loop-i : goal.decreases-loop-i
-decreases-loop-i l = l.m - l.i
