@@ -1,5 +1,5 @@
 -- A record's one reply, its checks from 7 on, and its effect. Assumes nothing.
-use Rattle.std.specs.Prelude.{◌≡◌, refl, ◌≢◌, ℕ, suc, ◌≤◌, Bool, true, ◌||◌, List, [], ◌∷◌, length, T, eqb, leb}
+use Rattle.std.specs.Prelude.{◌≡◌, refl, ℕ, ◌≤◌, Bool, true, ◌||◌, List, [], ◌∷◌, length, T, eqb, leb, Err}
 use Rattle.std.proofs.Common.{sym, ap, subst, ◌∙◌, arith, le_refl}
 use Rattle.std.proofs.Math.Bool.{false, not}
 use Rattle.std.proofs.Math.Option.{Option, none, some, none-ne-some}
@@ -15,14 +15,17 @@ use Rattle.layout.specs.Replies.{replies_bytes}
 use Rattle.layout.specs.ReplyLaws.{reply_length}
 use Rattle.layout.specs.States.{decode}
 use Rattle.layout.specs.Stored.{IsStored, Turned}
+use Rattle.order.specs.declared.Refusal.{Refusal}
 use Rattle.order.specs.Refusal.{refusal}
-use Rattle.calls.specs.Calls.{number_of}
+use Rattle.order.specs.RefusalLaws.{number_positive}
+use Rattle.order.specs.Told.{number_of}
+use Rattle.calls.specs.Calls.{number_of as position_of}
 use Rattle.calls.proofs.CallLaws.{numbered}
 use Rattle.replies.specs.Written.{reply, Wrote}
 use Rattle.replies.specs.TurnLaws.{one_reply, turned_one}
 use Rattle.framing.specs.FrameLaws.{record_parts}
+use Rattle.handling.specs.declared.Refused.{Refused}
 use Rattle.handling.specs.Answers.{Took, Answers}
-use Rattle.handling.specs.declared.Own.TheVariants.{Refused}
 
 -- ---- the position of a record
 
@@ -31,7 +34,7 @@ pub record Numbered (x : List ℕ) (n : ℕ) : Type 0 where
   pub long : body_at ≤ length x
   pub position : number_at position_at position_width x ≡ n
 
-pub number_read : (x : List ℕ) (n : ℕ) → number_of x ≡ some n → Numbered x n
+pub number_read : (x : List ℕ) (n : ℕ) → position_of x ≡ some n → Numbered x n
 number_read x n e =
     let k = numbered x n e in
     let f = record_parts x k.item k.read in
@@ -60,14 +63,14 @@ nonzero (c ∷ cs) t e = go c.0 refl (nonzero cs)
     go false q later = unfold first_number refusal all in rw q (later (and_r (not (eqb c.1 0)) (all (λ c. not (eqb c.1 0)) cs) t) (rw q at e))
 
 -- no check has the number 0, so 0 says that none refuses
-pub none_refuses : (s : Run) (q : Request) (r : ℕ) → r ≡ refusal (checks s q) → r ≡ 0 → first_number (checks s q) ≡ none
+pub none_refuses : (s : Run) (q : Request) → 0 ≡ refusal (checks s q) → first_number (checks s q) ≡ none
 unfolding checks standing access all
-none_refuses s (recover h) r e z = nonzero _ tt (sym e ∙ z)
-none_refuses s (crash h) r e z = nonzero _ tt (sym e ∙ z)
-none_refuses s (monitor h p) r e z = nonzero _ tt (sym e ∙ z)
-none_refuses s (open_space h p k) r e z = nonzero _ tt (sym e ∙ z)
-none_refuses s (close_space h p n) r e z = nonzero _ tt (sym e ∙ z)
-none_refuses s (guarded st) r e z = nonzero _ tt (sym e ∙ z)
+none_refuses s (recover h) e = nonzero _ tt (sym e)
+none_refuses s (crash h) e = nonzero _ tt (sym e)
+none_refuses s (monitor h p) e = nonzero _ tt (sym e)
+none_refuses s (open_space h p k) e = nonzero _ tt (sym e)
+none_refuses s (close_space h p n) e = nonzero _ tt (sym e)
+none_refuses s (guarded st) e = nonzero _ tt (sym e)
 
 -- what passes does not refuse, nor does any after it
 pub passed : (b : Bool) (k : ℕ) (cs : List (Bool × ℕ)) → first_number ((b, k) ∷ cs) ≡ none → T (not b) × (first_number cs ≡ none)
@@ -130,19 +133,19 @@ effect_short s (guarded st) t = absurd t
 
 -- ---- what a record has come to
 
-pub took : (s : Run) (q : Request) (r : ℕ) (buffer state out : List ℕ) (n : ℕ) → Other q → r ≡ refusal (checks s q) → r ≡ 0 → Turned (effect s q) buffer state out n → Took (some q) s buffer state out n
-took s q r buffer state out n o e z t = record { request = q; asked = refl; passes = none_refuses s q r e z; turned = t; short = omega (arith, t.number, effect_short s q o) }
+pub took : (s : Run) (q : Request) (buffer state out : List ℕ) (n : ℕ) → Other q → 0 ≡ refusal (checks s q) → Turned (effect s q) buffer state out n → Took (some q) s buffer state out n
+took s q buffer state out n o e t = record { request = q; asked = refl; passes = none_refuses s q e; turned = t; short = omega (arith, t.number, effect_short s q o) }
 
-pub handled_refused : (s : Run) (q : Request) (k : ℕ) (buffer state out : List ℕ) (n : ℕ) → k ≡ refusal (checks s q) → k ≢ 0
-    → Turned (refused s (asking_host q) (asking_process q) k) buffer state out n → Turned (handled s q) buffer state out n
+pub handled_refused : (s : Run) (q : Request) (x : Refusal) (buffer state out : List ℕ) (n : ℕ) → number_of x ≡ refusal (checks s q)
+    → Turned (refused s (asking_host q) (asking_process q) (number_of x)) buffer state out n → Turned (handled s q) buffer state out n
 unfolding handled refusal
-handled_refused s q k buffer state out n e z t = go (first_number (checks s q)) e
+handled_refused s q x buffer state out n e t = go (first_number (checks s q)) e
   where
-    go : (o : Option ℕ) → k ≡ maybe o 0 (λ n. n) → Turned (maybe o (settled (effect s q)) (refused s (asking_host q) (asking_process q))) buffer state out n
-    go none e = absurd (z e)
-    go (some m) e = along (refused s (asking_host q) (asking_process q) k) (refused s (asking_host q) (asking_process q) m) buffer state out n (ap (refused s (asking_host q) (asking_process q)) e) t
+    go : (o : Option ℕ) → number_of x ≡ maybe o 0 (λ n. n) → Turned (maybe o (settled (effect s q)) (refused s (asking_host q) (asking_process q))) buffer state out n
+    go none e = absurd (number_positive x e)
+    go (some m) e = along (refused s (asking_host q) (asking_process q) (number_of x)) (refused s (asking_host q) (asking_process q) m) buffer state out n (ap (refused s (asking_host q) (asking_process q)) e) t
 
-pub was_refused : (s : Run) (q : Request) (k : ℕ) (buffer state out : List ℕ) (n : ℕ) → k ≡ refusal (checks s q) → k ≢ 0
-    → Turned (refused s (asking_host q) (asking_process q) k) buffer state out n → Answers (some q) s buffer state out (Refused n)
+pub was_refused : (s : Run) (q : Request) (x : Refusal) (buffer state out : List ℕ) (r : Refused) → number_of x ≡ refusal (checks s q)
+    → Turned (refused s (asking_host q) (asking_process q) (number_of x)) buffer state out r.size → Answers (some q) s buffer state out (Err r)
 unfolding refusal
-was_refused s q k buffer state out n e z t = (λ passes. z (e ∙ ap (λ (o : Option ℕ). maybe o 0 (λ n. n)) passes), handled_refused s q k buffer state out n e z t)
+was_refused s q x buffer state out r e t = (λ passes. number_positive x (e ∙ ap (λ (o : Option ℕ). maybe o 0 (λ n. n)) passes), handled_refused s q x buffer state out r.size e t)

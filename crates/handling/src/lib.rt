@@ -8,19 +8,21 @@ ghost use Rattle.model.specs.Run.{with_last};
 ghost use Rattle.model.specs.Step.{recover, crash, monitor, open_space, refused, malformed as malforms};
 ghost use Rattle.layout.specs.States.{decode};
 ghost use Rattle.layout.specs.Stored.{Stored, IsStored, Turned};
-ghost use Rattle.calls.specs.Calls.{number_of};
+ghost use Rattle.calls.specs.Calls.{number_of as position_of};
+ghost use Rattle.order.specs.Told.{number_of};
 ghost use Rattle.handling.specs.Answers.{Answers};
 
-// What a record has come to before rule 7, with the bytes of its reply: a check refused it, or it is done.
+use order::Refusal;
+
+// A check refused a record: the size of the one reply that says so.
 #[derive(Clone, Copy)]
-pub enum Own {
-    Refused(usize),
-    Done(usize),
+pub struct Refused {
+    pub size: usize,
 }
 
 // "A step sets the last number".
 pub fn advance(state: &mut [u8], input: &[u8])
-    requires { IsStored state.old × (number_of input.now ≡ some (suc (decode state.old).last)) }
+    requires { IsStored state.old × (position_of input.now ≡ some (suc (decode state.old).last)) }
     ensures { Stored state.new (with_last (decode state.old) (suc (decode state.old).last)) }
 {
     let position = words::number(input, words::POSITION_AT, words::POSITION_WIDTH);
@@ -30,67 +32,77 @@ pub fn advance(state: &mut [u8], input: &[u8])
 // ---- a refusal
 
 // "one reply carries the number, nothing else changes".
-pub fn refuse(state: &[u8], host: u8, process: u16, outcome: u8, out: &mut [u8]) -> usize
+pub fn refuse(state: &[u8], host: u8, process: u16, outcome: Refusal, out: &mut [u8]) -> Refused
     requires { IsStored state.now × (reply_header_size ≤ length out.old) }
-    ensures { Turned (refused (decode state.now) host process outcome) out.old state.now out.new result }
+    ensures { Turned (refused (decode state.now) host process (number_of outcome)) out.old state.now out.new result.size }
 {
-    replies::plain_reply(out, header::last(state), host, process, outcome)
+    Refused {
+        size: replies::plain_reply(out, header::last(state), host, process, outcome.number()),
+    }
 }
 
 // "For 6 the reply has host 255, process 65,535".
-pub fn malformed(state: &[u8], out: &mut [u8]) -> usize
+pub fn malformed(state: &[u8], out: &mut [u8]) -> Refused
     requires { IsStored state.now × (reply_header_size ≤ length out.old) }
-    ensures { Turned (malforms (decode state.now)) out.old state.now out.new result }
+    ensures { Turned (malforms (decode state.now)) out.old state.now out.new result.size }
 {
-    refuse(state, 255, 65535, 6, out)
+    refuse(state, 255, 65535, Refusal::Malformed, out)
 }
 
-// ---- by the record
+// ---- by the record: the checks, then the effect with the size of its reply
+// One function of the check and the effect as closures is no plainer: each body is four lines, which the closures' contracts would say again.
 
 // RV.
-pub fn answer_recover(state: &mut [u8], host: u8, out: &mut [u8]) -> Own
+pub fn answer_recover(state: &mut [u8], host: u8, out: &mut [u8]) -> Result<usize, Refused>
     requires { IsStored state.old × (host < hosts) × (most_reply ≤ length out.old) }
     ensures { Answers (some (recover host)) (decode state.old) out.old state.new out.new result }
 {
-    let number = standing::refuse_recover(state, host);
-    if number != 0 {
-        return Own::Refused(refuse(state, host, 0, number, out));
+    if let Err(why) = standing::refuse_recover(state, host) {
+        return Err(refuse(state, host, 0, why, out));
     }
-    Own::Done(effects::take_recover(state, out, host))
+    Ok(effects::take_recover(state, out, host))
 }
 
 // CR.
-pub fn answer_crash(state: &mut [u8], host: u8, out: &mut [u8]) -> Own
+pub fn answer_crash(state: &mut [u8], host: u8, out: &mut [u8]) -> Result<usize, Refused>
     requires { IsStored state.old × (host < hosts) × (most_reply ≤ length out.old) }
     ensures { Answers (some (crash host)) (decode state.old) out.old state.new out.new result }
 {
-    let number = standing::refuse_crash(state, host);
-    if number != 0 {
-        return Own::Refused(refuse(state, host, 0, number, out));
+    if let Err(why) = standing::refuse_crash(state, host) {
+        return Err(refuse(state, host, 0, why, out));
     }
-    Own::Done(effects::take_crash(state, out, host))
+    Ok(effects::take_crash(state, out, host))
 }
 
 // MO.
-pub fn answer_monitor(state: &mut [u8], host: u8, process: u16, out: &mut [u8]) -> Own
+pub fn answer_monitor(
+    state: &mut [u8],
+    host: u8,
+    process: u16,
+    out: &mut [u8],
+) -> Result<usize, Refused>
     requires { IsStored state.old × (host < hosts) × (most_reply ≤ length out.old) }
     ensures { Answers (some (monitor host process)) (decode state.old) out.old state.new out.new result }
 {
-    let number = standing::refuse_monitor(state, host, process);
-    if number != 0 {
-        return Own::Refused(refuse(state, host, process, number, out));
+    if let Err(why) = standing::refuse_monitor(state, host, process) {
+        return Err(refuse(state, host, process, why, out));
     }
-    Own::Done(effects::take_monitor(state, out, host, process))
+    Ok(effects::take_monitor(state, out, host, process))
 }
 
 // MS.
-pub fn answer_open(state: &mut [u8], host: u8, process: u16, owned: bool, out: &mut [u8]) -> Own
+pub fn answer_open(
+    state: &mut [u8],
+    host: u8,
+    process: u16,
+    owned: bool,
+    out: &mut [u8],
+) -> Result<usize, Refused>
     requires { IsStored state.old × (host < hosts) × (most_reply ≤ length out.old) }
     ensures { Answers (some (open_space host process owned)) (decode state.old) out.old state.new out.new result }
 {
-    let number = standing::refuse_open(state, host, process);
-    if number != 0 {
-        return Own::Refused(refuse(state, host, process, number, out));
+    if let Err(why) = standing::refuse_open(state, host, process) {
+        return Err(refuse(state, host, process, why, out));
     }
-    Own::Done(effects::take_open(state, out, host, process, owned))
+    Ok(effects::take_open(state, out, host, process, owned))
 }

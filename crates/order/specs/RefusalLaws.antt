@@ -1,7 +1,8 @@
 -- The first row of the checks that refuses. Assumes nothing.
 use Rattle.std.proofs.Math.Path.{◌≡◌, refl}
 use Rattle.std.proofs.Common.{sym, ap, ◌∙◌, arith, le-leb}
-use Rattle.std.specs.Prelude.{ℕ, ◌+◌, ◌≤◌, ◌<◌, Bool, ◌&&◌, ◌||◌, length, leb, eqb}
+use Rattle.std.specs.Prelude.{ℕ, ◌+◌, ◌≤◌, ◌<◌, Bool, ◌&&◌, ◌||◌, length, leb, eqb, Ok, Err, IsErrAnd}
+use Rattle.std.specs.Prelude as code
 use Rattle.std.proofs.Math.Bool.{true, false, not}
 use mathlib.Core.List.{List, [], ◌∷◌, ◌++◌, append_assoc}
 use Rattle.std.proofs.lemmas.Bool.{lt-leb}
@@ -10,7 +11,33 @@ use Rattle.basis.specs.Lists.{any}
 use Rattle.basis.specs.Sizes.{most_monitors, most_spaces, space_numbers}
 use Rattle.model.specs.Run.{Run, host_up, is_waiting, is_open, is_denied, monitors_used_up}
 use Rattle.model.specs.Step.{checks, standing, access, some_waiting_names, recover, crash, close_space}
+use Rattle.order.specs.declared.Refusal.{Refusal}
+use Rattle.order.specs.declared.Refusal.TheVariants.{Malformed, HostDown, HostUp, ProcessWaits, NotOpen, Denied, NoRoom, QueueFull, UsedUp, InUse, NoMatch, OffRange, CannotWait}
 use Rattle.order.specs.Refusal.{refusal, used_up, closing}
+use Rattle.order.specs.Told.{number_of, told}
+
+-- ---- a refusal by its number
+
+-- 0 is none's
+pub number_positive : (x : Refusal) → number_of x ≡ 0 → ⊥
+number_positive Malformed e = omega arith
+number_positive HostDown e = omega arith
+number_positive HostUp e = omega arith
+number_positive ProcessWaits e = omega arith
+number_positive NotOpen e = omega arith
+number_positive Denied e = omega arith
+number_positive NoRoom e = omega arith
+number_positive QueueFull e = omega arith
+number_positive UsedUp e = omega arith
+number_positive InUse e = omega arith
+number_positive NoMatch e = omega arith
+number_positive OffRange e = omega arith
+number_positive CannotWait e = omega arith
+
+-- a `?` hands on what was found
+pub handed_on : (r : code.Result Unit Refusal) (x : Refusal) → IsErrAnd r (λ y. y ≡ x) → told r ≡ number_of x
+handed_on (Ok u) x k = absurd k
+handed_on (Err y) x k = ap number_of k
 
 -- ---- a row
 
@@ -65,6 +92,10 @@ module _ (s : Run) (h p r : ℕ) (e : r ≡ refusal (standing s h p)) (cs : List
       go true u e = absurd (omega (arith, z, e))
       go false true e = absurd (omega (arith, z, e))
       go false false e = refl
+
+-- the same of what a `?` hands on
+pub stops_on : (s : Run) (h p : ℕ) (x : Refusal) → number_of x ≡ refusal (standing s h p) → (r : code.Result Unit Refusal) → IsErrAnd r (λ y. y ≡ x) → (cs : List (Bool × ℕ)) → told r ≡ refusal (standing s h p ++ cs)
+stops_on s h p x e r k cs = handed_on r x k ∙ stops s h p (number_of x) e cs (number_positive x)
 
 -- ---- RV: 8
 

@@ -1,5 +1,6 @@
 -- The spaces that bodies name: what the answers of the code come to. Assumes nothing.
-use Rattle.std.specs.Prelude.{◌≡◌, refl, ℕ, Bool, ◌||◌, List, get_or, T, eqb}
+use Rattle.std.specs.Prelude.{◌≡◌, refl, ℕ, Bool, ◌||◌, List, get_or, T, eqb, IsErrAnd}
+use Rattle.std.specs.Prelude as code
 use Rattle.std.proofs.Common.{sym, ◌∙◌}
 use Rattle.std.proofs.Math.Path.{ap}
 use Rattle.std.proofs.Math.Bool.{true, false}
@@ -13,7 +14,9 @@ use Rattle.model.specs.Step.{checks, standing, access, some_waiting_names, guard
 use Rattle.layout.specs.Stored.{statement_of}
 use Rattle.walk.specs.Walk.{body_is}
 use Rattle.order.specs.Refusal.{refusal, closing}
-use Rattle.order.specs.RefusalLaws.{stops, goes, all_open, some_closed_lem, some_denied_lem, close_closed, close_denied, close_used, close_unused}
+use Rattle.order.specs.declared.Refusal.{Refusal}
+use Rattle.order.specs.Told.{number_of, told}
+use Rattle.order.specs.RefusalLaws.{number_positive, handed_on, stops, goes, all_open, some_closed_lem, some_denied_lem, close_closed, close_denied, close_used, close_unused}
 use Rattle.names.specs.Asks.{asks}
 use Rattle.names.specs.declared.SpaceTest.{SpaceTest}
 use Rattle.names.specs.declared.SpaceTest.TheVariants.{Closed, Shut, Same}
@@ -62,6 +65,10 @@ module _ (s : Run) (b : List ℕ) (process r : ℕ) (t : T (legal_body b)) (e : 
   pub statement_stops : (r ≡ 0 → ⊥) → r ≡ refusal (checks s (guarded (statement_of b)))
   unfolding checks
   statement_stops n = stops s (statement_of b).host (statement_of b).process r stood (access s (statement_of b).process (spaces_named (statement_of b))) n
+
+  -- the same of what a `?` hands on
+  pub statement_stops_on : (x : Refusal) → r ≡ number_of x → (q : code.Result Unit Refusal) → IsErrAnd q (λ y. y ≡ x) → told q ≡ refusal (checks s (guarded (statement_of b)))
+  statement_stops_on x is q k = handed_on q x k ∙ sym is ∙ statement_stops (λ z. number_positive x (sym is ∙ z))
 
   pub statement_goes : (q : ℕ) → r ≡ 0 → q ≡ refusal (access s process (spaces_named (statement_of b))) → q ≡ refusal (checks s (guarded (statement_of b)))
   unfolding checks

@@ -10,19 +10,21 @@ ghost use Rattle.model.specs.Step.{checks, access, some_waiting_names, close_spa
 ghost use Rattle.layout.specs.States.{decode};
 ghost use Rattle.layout.specs.Stored.{IsStored, statement_of};
 ghost use Rattle.order.specs.Refusal.{refusal, closing};
+ghost use Rattle.order.specs.Told.{told};
 ghost use Rattle.spaces.specs.Spaces.{spaces_of, IsListed, Rising};
 ghost use Rattle.queue.specs.Queue.{waiting_of, IsQueued};
 ghost use Rattle.queue.specs.PlaceLaws.{waiting_nth};
 ghost use Rattle.refusals.specs.Naming.{naming};
 
 use names::SpaceTest;
+use order::Refusal;
 
 // ---- the spaces that a body names
 
 // 10 over all spaces that a legal body names, then 11 over all; neither, where all are open to the process.
-fn refuse_named(state: &[u8], process: u16, body: &[u8]) -> u8
+fn refuse_named(state: &[u8], process: u16, body: &[u8]) -> Result<(), Refusal>
     requires { IsStored state.now × T (legal_body body.now) }
-    ensures { result ≡ refusal (access (decode state.now) process (spaces_named (statement_of body.now))) }
+    ensures { told result ≡ refusal (access (decode state.now) process (spaces_named (statement_of body.now))) }
 {
     let n = header::space_count(state);
     if !names::some_named(
@@ -31,7 +33,7 @@ fn refuse_named(state: &[u8], process: u16, body: &[u8]) -> u8
         n,
         SpaceTest::Shut(process),
     ) {
-        return 0;
+        return Ok(());
     }
     if names::some_named(
         body,
@@ -39,9 +41,9 @@ fn refuse_named(state: &[u8], process: u16, body: &[u8]) -> u8
         n,
         SpaceTest::Closed,
     ) {
-        return 10;
+        return Err(Refusal::NotOpen);
     }
-    11
+    Err(Refusal::Denied)
 }
 
 // ---- the spaces that waiting statements name
@@ -97,13 +99,13 @@ fn in_use(state: &[u8], space: u16) -> bool
 }
 
 // 10, 11 and 15 of the one space that DS names.
-fn refuse_space(state: &[u8], process: u16, space: u16) -> u8
+fn refuse_space(state: &[u8], process: u16, space: u16) -> Result<(), Refusal>
     requires { IsStored state.now }
-    ensures { result ≡ refusal (closing (decode state.now) process space) }
+    ensures { told result ≡ refusal (closing (decode state.now) process space) }
 {
     let n = header::space_count(state);
     if !spaces::is_open(&state[words::SPACES_AT..words::SPACES_END], n, space) {
-        return 10;
+        return Err(Refusal::NotOpen);
     }
     if spaces::is_denied(
         &state[words::SPACES_AT..words::SPACES_END],
@@ -111,37 +113,31 @@ fn refuse_space(state: &[u8], process: u16, space: u16) -> u8
         space,
         process,
     ) {
-        return 11;
+        return Err(Refusal::Denied);
     }
     if in_use(state, space) {
-        return 15;
+        return Err(Refusal::InUse);
     }
-    0
+    Ok(())
 }
 
 // ---- the records
 
 // DS: 7 and 9, then 10, 11 and 15.
-pub fn refuse_close(state: &[u8], host: u8, process: u16, space: u16) -> u8
+pub fn refuse_close(state: &[u8], host: u8, process: u16, space: u16) -> Result<(), Refusal>
     requires { IsStored state.now × (host < hosts) × (space < space_numbers) }
-    ensures { result ≡ refusal (checks (decode state.now) (close_space host process space)) }
+    ensures { told result ≡ refusal (checks (decode state.now) (close_space host process space)) }
 {
-    let r = standing::refuse_standing(state, host, process);
-    if r != 0 {
-        return r;
-    }
+    standing::refuse_standing(state, host, process)?;
     refuse_space(state, process, space)
 }
 
 // AG: 7 and 9, then 10 and 11.
-pub fn refuse_statement(state: &[u8], body: &[u8]) -> u8
+pub fn refuse_statement(state: &[u8], body: &[u8]) -> Result<(), Refusal>
     requires { IsStored state.now × T (legal_body body.now) }
-    ensures { result ≡ refusal (checks (decode state.now) (guarded (statement_of body.now))) }
+    ensures { told result ≡ refusal (checks (decode state.now) (guarded (statement_of body.now))) }
 {
     let process = words::word2(body, words::PROCESS_AT);
-    let r = standing::refuse_standing(state, body[words::HOST_AT], process);
-    if r != 0 {
-        return r;
-    }
+    standing::refuse_standing(state, body[words::HOST_AT], process)?;
     refuse_named(state, process, body)
 }

@@ -19,7 +19,6 @@ use Rattle.layout.specs.States.{decode}
 use Rattle.layout.specs.Stored.{IsStored, Turned, statement_of, legal_parse}
 use Rattle.header.specs.StoredLaws.{stored_says, said}
 use Rattle.walk.specs.Walk.{body_is}
-use Rattle.framing.specs.Marks.{mark_at}
 use Rattle.handling.specs.Answers.{Took}
 use Rattle.handling.specs.AnswerLaws.{along}
 use Rattle.wakes.specs.Woken.{Further}
@@ -73,10 +72,6 @@ took_done o s buffer middle out state state' own n t f = rw t.asked (handled_don
 pub asked_as : (m : Mark) (body : List ℕ) (s : Run) (o : Option Request) (buffer state out : List ℕ) (n : ℕ) → o ≡ request_of m body → Turned (maybe o (malformed s) (handled s)) buffer state out n → Turned (asked m body s) buffer state out n
 unfolding asked
 asked_as m body s o buffer state out n e t = rw (← e) t
-
--- by the mark's number
-pub asked_by : (m : Mark) (mark : ℕ) (body : List ℕ) (s : Run) (buffer state out : List ℕ) (n : ℕ) → mark_at mark ≡ m → Turned (asked m body s) buffer state out n → Turned (asked (mark_at mark) body s) buffer state out n
-asked_by m mark body s buffer state out n e t = rw e t
 
 module _ (body : List ℕ) (r : Bool) where
   pub statement_yes : r ≡ legal_body body → r ≡ true → request_of AG body ≡ some (guarded (statement_of body))

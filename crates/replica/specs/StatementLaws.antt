@@ -1,6 +1,7 @@
 -- AG: a statement runs, waits, or is refused 18 or 13. Assumes nothing.
-use Rattle.std.specs.Prelude.{◌≡◌, refl, ◌≢◌, ℕ, ◌≤◌, ◌<◌, Bool, true, cond, T, eqb, leb}
-use Rattle.std.proofs.Common.{sym, subst, ◌∙◌, eq-eqb}
+use Rattle.std.specs.Prelude.{◌≡◌, refl, ◌≢◌, ℕ, ◌≤◌, ◌<◌, Bool, true, cond, T, eqb, leb, Ok, Err}
+use Rattle.std.specs.Prelude as code
+use Rattle.std.proofs.Common.{sym, subst, ◌∙◌}
 use Rattle.std.proofs.Math.Path.{ap}
 use Rattle.std.proofs.Math.Nat.{le_refl}
 use native.Mathlib.Omega.{arith}
@@ -31,7 +32,8 @@ use Rattle.replies.specs.Written.{reply}
 use Rattle.replies.specs.TurnLaws.{one_reply}
 use Rattle.state.specs.Meaning.{enqueued}
 use Rattle.unmet.specs.Unmet.{answered_by}
-use Rattle.unmet.specs.UnmetLaws.{answered_refused}
+use Rattle.order.specs.declared.Refusal.{Refusal}
+use Rattle.order.specs.Told.{number_of}
 use Rattle.handling.specs.AnswerLaws.{passed, along}
 use Rattle.running.specs.Executed.{still, MayRun, executed}
 use Rattle.replica.specs.Asks.{Later}
@@ -89,24 +91,23 @@ module _ (s : Run) (st : Statement) (buffer state out : List ℕ) (q : Quiet s s
       along (unmet s st) (effect s (guarded st)) buffer state' out' n (sym q.turn) b
 
 -- a reply with no value, or none
-pub unmet_short : (s : Run) (st : Statement) (k n : ℕ) → unmet s st ≡ answered_by k s st → n ≡ length (replies_bytes (unmet s st).replies) → n ≤ most_reply
-unfolding answered_by
-unmet_short s st k n q e = omega (arith, e, ap (λ (t : Turn). length (replies_bytes t.replies)) q, go (eqb k 0))
+pub unmet_short : (s : Run) (st : Statement) (r : code.Result Unit Refusal) (n : ℕ) → unmet s st ≡ answered_by r s st → n ≡ length (replies_bytes (unmet s st).replies) → n ≤ most_reply
+unmet_short s st r n q e = omega (arith, e, ap (λ (t : Turn). length (replies_bytes t.replies)) q, go r)
   where
-    go : (b : Bool) → length (replies_bytes (cond b (record { run = enqueued s st; replies = [] }) (refused s st.host st.process k)).replies) ≤ most_reply
-    go true = unfold replies_bytes flat_map in omega arith
-    go false =
-        let x : Reply = reply s.last st.host st.process k 0 [] in
+    go : (r : code.Result Unit Refusal) → length (replies_bytes (answered_by r s st).replies) ≤ most_reply
+    go (Ok u) = unfold replies_bytes flat_map in omega arith
+    go (Err y) =
+        let x : Reply = reply s.last st.host st.process (number_of y) 0 [] in
         unfold refused plain_reply in omega (arith, ap length (one_reply x), reply_length x)
 
--- ---- by the number that was found
+-- ---- by what was found
 
-pub unmet_refused : (s : Run) (st : Statement) (k : ℕ) (buffer state out : List ℕ) (n : ℕ) → unmet s st ≡ answered_by k s st → k ≢ 0 → Turned (refused s st.host st.process k) buffer state out n → Turned (unmet s st) buffer state out n
-unmet_refused s st k buffer state out n q z t = rw (q, answered_refused s st k z) t
+pub unmet_refused : (s : Run) (st : Statement) (x : Refusal) (buffer state out : List ℕ) (n : ℕ) → unmet s st ≡ answered_by (Err x) s st → Turned (refused s st.host st.process (number_of x)) buffer state out n → Turned (unmet s st) buffer state out n
+unmet_refused s st x buffer state out n q t = rw q t
 
-pub unmet_waiting : (s : Run) (st : Statement) (k : ℕ) (state out : List ℕ) → unmet s st ≡ answered_by k s st → k ≡ 0 → Stored state (enqueued s st) → Turned (unmet s st) out state out 0
-unfolding answered_by replies_bytes flat_map
-unmet_waiting s st k state out q z h = rw (q, eq-eqb k 0 z) (record { stored = h; bytes = refl; number = refl })
+pub unmet_waiting : (s : Run) (st : Statement) (u : Unit) (state out : List ℕ) → unmet s st ≡ answered_by (Ok u) s st → Stored state (enqueued s st) → Turned (unmet s st) out state out 0
+unfolding replies_bytes flat_map
+unmet_waiting s st u state out q h = rw q (record { stored = h; bytes = refl; number = refl })
 
 -- ---- what a statement that passes the checks may do
 

@@ -1,9 +1,8 @@
 -- The checks 1 to 5, and the call for a record. Assumes nothing.
-use Rattle.std.specs.Prelude.{◌≡◌, refl, ◌≢◌, ℕ, suc, ◌≤◌, Bool, true, false, List, length, T}
+use Rattle.std.specs.Prelude.{◌≡◌, ℕ, suc, ◌≤◌, Bool, true, false, List, length, T}
 use Rattle.std.proofs.Math.Path.{sym, ap}
-use Rattle.std.proofs.Common.{◌∙◌, arith}
+use Rattle.std.proofs.Common.{◌∙◌}
 use Rattle.std.proofs.Math.Option.{Option, none, some}
-use Rattle.basis.specs.Choice.{maybe}
 use Rattle.basis.specs.Logic.{is_true}
 use Rattle.basis.specs.Sizes.{reply_size}
 use Rattle.model.proofs.Fit.{sound_fit}
@@ -15,41 +14,29 @@ use Rattle.layout.specs.Stored.{IsStored, Turned}
 use Rattle.header.specs.RowLaws.{is_stored}
 use Rattle.calls.specs.Calls.{Lent, lent, answer, number_of, refusal_at, refusal, step_bytes, laid_over, turned_back, taken, take_call}
 use Rattle.calls.proofs.CallLaws.{passes_next}
-use Rattle.calls.proofs.ReturnLaws.{refusal_number, refusal_none}
-use Rattle.order.specs.Refusal.{number_or0}
+use Rattle.calls.proofs.ReturnLaws.{refusal_none}
 
 -- ---- checks 1 to 5
 
 module _ (b x y : List ℕ) (r : Bool) (e : r ≡ is_state b) where
-  pub back_1 : r ≡ false → 1 ≡ number_or0 (refusal (lent b x y))
+  pub back_1 : r ≡ false → some 1 ≡ refusal (lent b x y)
   unfolding refusal
   back_1 z = sym (rw (← e, z))
 
   -- those after the first go by the last position taken
-  pub back_at : (last k : ℕ) → r ≡ true → last ≡ (decode b).last → k ≡ number_or0 (refusal_at last x y) → k ≡ number_or0 (refusal (lent b x y))
+  pub back_at : (last : ℕ) (k : Option ℕ) → r ≡ true → last ≡ (decode b).last → k ≡ refusal_at last x y → k ≡ refusal (lent b x y)
   unfolding refusal
-  back_at last k z el ek = ek ∙ ap (λ (n : ℕ). number_or0 (refusal_at n x y)) el ∙ sym (rw (← e, z))
+  back_at last k z el ek = ek ∙ ap (λ (n : ℕ). refusal_at n x y) el ∙ sym (rw (← e, z))
 
 -- ---- the call
 
-pub take_refused : (l : Lent) (k : ℕ) → k ≡ number_or0 (refusal l) → k ≢ 0 → answer k l.state l.reply ≡ take_call l
+pub take_refused : (l : Lent) (k : ℕ) → some k ≡ refusal l → answer k l.state l.reply ≡ take_call l
 unfolding take_call turned_back
-take_refused l k e z = go (refusal l) e
-  where
-    go : (o : Option ℕ) → k ≡ number_or0 o → answer k l.state l.reply ≡ maybe o (taken l) (λ n. answer n l.state l.reply)
-    go none e = absurd (z e)
-    go (some n) e = ap (λ (m : ℕ). answer m l.state l.reply) e
+take_refused l k e = sym (rw (← e))
 
-none_refused : (l : Lent) (k : ℕ) → k ≡ number_or0 (refusal l) → k ≡ 0 → refusal l ≡ none
-none_refused l k e z = go (refusal l) refl (sym e ∙ z)
-  where
-    go : (o : Option ℕ) → refusal l ≡ o → number_or0 o ≡ 0 → o ≡ none
-    go none q z = refl
-    go (some n) q z = absurd (omega (arith, refusal_number l n q))
-
-pub take_done : (l : Lent) (k : ℕ) (state out : List ℕ) (n : ℕ) → k ≡ number_or0 (refusal l) → k ≡ 0 → Turned (step_bytes (decode l.state) l.input) l.reply state out n → answer n state out ≡ take_call l
+pub take_done : (l : Lent) (state out : List ℕ) (n : ℕ) → none ≡ refusal l → Turned (step_bytes (decode l.state) l.input) l.reply state out n → answer n state out ≡ take_call l
 unfolding take_call taken laid_over
-take_done l k state out n e z t = rw (none_refused l k e z) (λ i. answer (t.number i) (t.stored.bytes i) (t.bytes i))
+take_done l state out n e t = rw (← e) (λ i. answer (t.number i) (t.stored.bytes i) (t.bytes i))
 
 -- what a step rests on
 pub record Ready (l : Lent) : Type 0 where
@@ -57,9 +44,9 @@ pub record Ready (l : Lent) : Type 0 where
   pub number : number_of l.input ≡ some (suc (decode l.state).last)
   pub room : reply_size ≤ length l.reply
 
-pub take_ready : (l : Lent) (k : ℕ) → k ≡ number_or0 (refusal l) → k ≡ 0 → Ready l
-take_ready l k e z =
-    let q = none_refused l k e z in
+pub take_ready : (l : Lent) → none ≡ refusal l → Ready l
+take_ready l e =
+    let q = sym e in
     let r = refusal_none l q in
     record {
       stored = is_stored l.state (decode l.state) (sym (state_encode l.state r.0)) (sound_fit (decode l.state) (state_sound l.state r.0));

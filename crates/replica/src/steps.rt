@@ -1,5 +1,5 @@
 // The call for a record: the checks 1 to 5, then a step on the bytes of a state: check 6, the checks from 7 on, the effect, rule 7.
-ghost use Rattle.std.specs.Prelude.{◌≡◌, suc, ◌≤◌, ◌<◌, length, T};
+ghost use Rattle.std.specs.Prelude.{◌≡◌, ◌≢◌, suc, ◌≤◌, ◌<◌, length, T};
 ghost use Rattle.std.proofs.Math.Option.{none, some};
 ghost use Rattle.basis.specs.Choice.{first_number};
 ghost use Rattle.basis.specs.Sizes.{reply_size, reply_header_size, most_reply};
@@ -7,19 +7,21 @@ ghost use Rattle.model.specs.Legal.{legal_body};
 ghost use Rattle.model.specs.Step.{AG, guarded, checks, refused, unmet, effect, handled};
 ghost use Rattle.layout.specs.States.{decode};
 ghost use Rattle.layout.specs.Stored.{IsStored, Turned, statement_of};
-ghost use Rattle.calls.specs.Calls.{number_of, step_bytes, lent, answer, refusal, take_call};
-ghost use Rattle.order.specs.Refusal.{number_or0};
-ghost use Rattle.framing.specs.Marks.{mark_at};
+ghost use Rattle.calls.specs.Calls.{number_of as position_of, step_bytes, lent, answer, refusal, take_call};
+ghost use Rattle.order.specs.Told.{number_of};
+ghost use Rattle.framing.specs.Marks.{marked};
+ghost use Rattle.framing.specs.Back.{back};
 ghost use Rattle.replica.specs.Asks.{asked, Later};
 
-use handling::Own;
+use framing::{Mark, TurnedBack};
+use order::Refusal;
 
 // ---- AG
 
 // A statement refused: its body begins with host and process.
-fn refuse_body(state: &[u8], body: &[u8], outcome: u8, out: &mut [u8]) -> usize
+fn refuse_body(state: &[u8], body: &[u8], outcome: Refusal, out: &mut [u8]) -> usize
     requires { IsStored state.now × T (legal_body body.now) × (reply_header_size ≤ length out.old) }
-    ensures { Turned (refused (decode state.now) (statement_of body.now).host (statement_of body.now).process outcome) out.old state.now out.new result }
+    ensures { Turned (refused (decode state.now) (statement_of body.now).host (statement_of body.now).process (number_of outcome)) out.old state.now out.new result }
 {
     handling::refuse(
         state,
@@ -28,6 +30,7 @@ fn refuse_body(state: &[u8], body: &[u8], outcome: u8, out: &mut [u8]) -> usize
         outcome,
         out,
     )
+    .size
 }
 
 // No guard holds: 18 where none is in or rd, 13 where 32 wait, else the statement waits without a reply.
@@ -35,9 +38,8 @@ fn wait_or_refuse(state: &mut [u8], body: &[u8], out: &mut [u8]) -> usize
     requires { IsStored state.old × T (legal_body body.now) × Later (decode state.old) × (first_number (checks (decode state.old) (guarded (statement_of body.now))) ≡ none) × (reply_header_size ≤ length out.old) }
     ensures { Turned (unmet (decode state.old) (statement_of body.now)) out.old state.new out.new result × (result ≤ most_reply) }
 {
-    let number = unmet::refusal(guards::can_wait(body), header::waiting_count(state));
-    if number != 0 {
-        return refuse_body(state, body, number, out);
+    if let Err(why) = unmet::refusal(guards::can_wait(body), header::waiting_count(state)) {
+        return refuse_body(state, body, why, out);
     }
     state::enqueue(state, body);
     0
@@ -61,9 +63,8 @@ fn handle_statement(state: &mut [u8], body: &[u8], out: &mut [u8]) -> usize
     requires { IsStored state.old × T (legal_body body.now) × Later (decode state.old) × (reply_size ≤ length out.old) }
     ensures { Turned (handled (decode state.old) (guarded (statement_of body.now))) out.old state.new out.new result }
 {
-    let number = refusals::refuse_statement(state, body);
-    if number != 0 {
-        return refuse_body(state, body, number, out);
+    if let Err(why) = refusals::refuse_statement(state, body) {
+        return refuse_body(state, body, why, out);
     }
     let own = run_statement(state, body, out);
     wakes::settle(state, out, own)
@@ -75,57 +76,58 @@ fn ask_statement(state: &mut [u8], body: &[u8], out: &mut [u8]) -> usize
     ensures { Turned (asked AG body.now (decode state.old)) out.old state.new out.new result }
 {
     if !bodies::body_ok(body) {
-        return handling::malformed(state, out);
+        return handling::malformed(state, out).size;
     }
     handle_statement(state, body, out)
 }
 
 // ---- the others
 
-// A record of a mark but AG, by the mark's number; rule 7 follows what is done.
-fn ask_other(mark: u8, state: &mut [u8], body: &[u8], out: &mut [u8]) -> usize
-    requires { (1 ≤ mark) × (mark ≤ 5) × IsStored state.old × (reply_size ≤ length out.old) }
-    ensures { Turned (asked (mark_at mark) body.now (decode state.old)) out.old state.new out.new result }
+// A record of a mark but AG; rule 7 follows what is done.
+fn ask_other(mark: Mark, state: &mut [u8], body: &[u8], out: &mut [u8]) -> usize
+    requires { (mark ≢ Mark.Statement) × IsStored state.old × (reply_size ≤ length out.old) }
+    ensures { Turned (asked (marked mark) body.now (decode state.old)) out.old state.new out.new result }
 {
     let wanted = requests::read(mark, body);
-    let own = answering::answer(state, wanted, out);
-    match own {
-        Own::Refused(n) => n,
-        Own::Done(n) => wakes::settle(state, out, n),
+    match answering::answer(state, wanted, out) {
+        Ok(n) => wakes::settle(state, out, n),
+        Err(refused) => refused.size,
     }
 }
 
 // ---- a record
 
-// What a record asks, by its mark's number.
-fn ask(mark: u8, state: &mut [u8], body: &[u8], out: &mut [u8]) -> usize
-    requires { (1 ≤ mark) × IsStored state.old × Later (decode state.old) × (reply_size ≤ length out.old) }
-    ensures { Turned (asked (mark_at mark) body.now (decode state.old)) out.old state.new out.new result }
+// What a record asks, by its mark.
+fn ask(mark: Mark, state: &mut [u8], body: &[u8], out: &mut [u8]) -> usize
+    requires { IsStored state.old × Later (decode state.old) × (reply_size ≤ length out.old) }
+    ensures { Turned (asked (marked mark) body.now (decode state.old)) out.old state.new out.new result }
 {
-    if mark <= 5 {
-        return ask_other(mark, state, body, out);
+    match mark {
+        Mark::Statement => ask_statement(state, body, out),
+        _ => ask_other(mark, state, body, out),
     }
-    ask_statement(state, body, out)
 }
 
 // "A step sets the last number and tries the checks from 6 on".
 fn step(state: &mut [u8], input: &[u8], out: &mut [u8]) -> usize
-    requires { IsStored state.old × (number_of input.now ≡ some (suc (decode state.old).last)) × (reply_size ≤ length out.old) }
+    requires { IsStored state.old × (position_of input.now ≡ some (suc (decode state.old).last)) × (reply_size ≤ length out.old) }
     ensures { Turned (step_bytes (decode state.old) input.now) out.old state.new out.new result }
 {
-    let mark = framing::mark_of(input);
+    let Some(mark) = framing::mark_of(input) else {
+        unreachable!()
+    };
     handling::advance(state, input);
     ask(mark, state, &input[words::BODY_AT..], out)
 }
 
 // ---- the call
 
-// The number of the first of the checks 1 to 5 that fails, 0 where none does.
-fn turned_back(state: &[u8], input: &[u8], reply: &[u8]) -> u64
-    ensures { result ≡ number_or0 (refusal (lent state.now input.now reply.now)) }
+// The first of the checks 1 to 5 that fails.
+fn turned_back(state: &[u8], input: &[u8], reply: &[u8]) -> Result<(), TurnedBack>
+    ensures { back result ≡ refusal (lent state.now input.now reply.now) }
 {
     if !validation::is_state(state) {
-        return 1;
+        return Err(TurnedBack::NoState);
     }
     framing::refusal_at(header::last(state), input, reply)
 }
@@ -134,9 +136,8 @@ fn turned_back(state: &[u8], input: &[u8], reply: &[u8]) -> u64
 pub fn take(state: &mut [u8], input: &[u8], reply: &mut [u8]) -> u64
     ensures { answer result state.new reply.new ≡ take_call (lent state.old input.now reply.old) }
 {
-    let number = turned_back(state, input, reply);
-    if number != 0 {
-        return number;
+    if let Err(why) = turned_back(state, input, reply) {
+        return why.number();
     }
     step(state, input, reply) as u64
 }

@@ -1,18 +1,17 @@
 -- The bodies of RV, CR and MO as requests, and the first byte of every body. Assumes nothing.
-use Rattle.std.specs.Prelude.{◌≡◌, ◌≢◌, ℕ, ◌<◌, Bool, true, ◌&&◌, cond, List, [], ◌∷◌, length, get_or, T, eqb, ltb, leb}
+use Rattle.std.specs.Prelude.{◌≡◌, ◌≢◌, ℕ, ◌≤◌, ◌<◌, Bool, true, cond, List, [], ◌∷◌, length, get_or, eqb, ltb, leb}
 use Rattle.std.proofs.Math.Path.{refl}
-use Rattle.std.proofs.Common.{sym, ◌∙◌, arith, ltb→lt, eqb→eq, le-leb, ne_eqb, eq-eqb}
+use Rattle.std.proofs.Common.{sym, ◌∙◌, arith, le-leb, ne_eqb, eq-eqb, le-ltb, lt-ltb}
 use Rattle.std.proofs.Math.Bool.{false}
 use Rattle.std.proofs.Math.Option.{Option, none, some, map}
 use Rattle.basis.specs.Choice.{maybe, provided}
-use Rattle.basis.specs.Logic.{and_l, and_r, true_is}
 use Rattle.basis.specs.Lists.{is_empty}
 use Rattle.basis.specs.Numbers.{number, number_at}
 use Rattle.basis.specs.NumberLaws.{number_one}
 use Rattle.basis.specs.Sizes.{host_width, process_width, hosts, process_at, host_body, process_body, host_at}
 use Rattle.model.specs.Reading.{Reader, ◌>>=◌, give, refuse, natural, whole_of}
 use Rattle.model.specs.Step.{RV, CR, MO, Request, recover, crash, monitor, host, monitor_body, request_of}
-use Rattle.requests.specs.Asking.{from_host}
+use Rattle.requests.specs.Asking.{from_host, IsFrom, AreFrom}
 
 -- ---- the first byte and the numbers after it
 
@@ -78,41 +77,40 @@ monitor_request (a ∷ b ∷ c ∷ d ∷ l) =
 
 -- ---- the test of a body's first byte
 
-pub from_no : (body : List ℕ) (n : ℕ) → length body ≢ n → false ≡ from_host body n
+pub from_no : (body : List ℕ) (n : ℕ) → length body ≢ n → from_host body n ≡ false
 unfolding from_host
-from_no body n h = sym (rw (ne_eqb (length body) n h))
+from_no body n h = rw (ne_eqb (length body) n h)
 
-pub from_yes : (body : List ℕ) (n : ℕ) → length body ≡ n → ltb (get_or body host_at 0) hosts ≡ from_host body n
-unfolding from_host
-from_yes body n h = sym (rw (eq-eqb (length body) n h))
+module _ (body : List ℕ) (n h : ℕ) (l : length body ≡ n) (e : h ≡ get_or body host_at 0) where
+  pub from_past : hosts ≤ h → from_host body n ≡ false
+  unfolding from_host
+  from_past k = let p : hosts ≤ get_or body host_at 0 = omega (arith, e, k) in rw (eq-eqb (length body) n l, le-ltb (get_or body host_at 0) hosts p)
 
-pub from_host_lem : (body : List ℕ) (n : ℕ) (r : Bool) → r ≡ from_host body n → r ≡ true → (length body ≡ n) × (get_or body host_at 0 < hosts)
-unfolding from_host
-from_host_lem body n r e z =
-    let t : T (eqb (length body) n && ltb (get_or body host_at 0) hosts) = true_is (eqb (length body) n && ltb (get_or body host_at 0) hosts) (sym e ∙ z) in
-    (eqb→eq (length body) n (and_l (eqb (length body) n) (ltb (get_or body host_at 0) hosts) t), ltb→lt (get_or body host_at 0) hosts (and_r (eqb (length body) n) (ltb (get_or body host_at 0) hosts) t))
+  pub from_yes : h < hosts → IsFrom body n h
+  unfolding from_host
+  from_yes k = let p : get_or body host_at 0 < hosts = omega (arith, e, k) in record { yes = rw (eq-eqb (length body) n l, lt-ltb (get_or body host_at 0) hosts p); long = l; at = e; small = k }
 
-module _ (body : List ℕ) (r : Bool) where
-  pub recover_yes : r ≡ from_host body host_body → r ≡ true → request_of RV body ≡ some (recover (get_or body host_at 0))
+module _ (body : List ℕ) where
+  pub recover_yes : (h : ℕ) → IsFrom body host_body h → some (recover h) ≡ request_of RV body
   unfolding request_of
-  recover_yes e z = host_request recover body ∙ rw (← e, z)
+  recover_yes h f = sym (host_request recover body ∙ rw (f.yes, f.at))
 
-  pub recover_no : r ≡ from_host body host_body → r ≡ false → request_of RV body ≡ none
+  pub recover_no : from_host body host_body ≡ false → none ≡ request_of RV body
   unfolding request_of
-  recover_no e z = host_request recover body ∙ rw (← e, z)
+  recover_no z = sym (host_request recover body ∙ rw z)
 
-  pub crash_yes : r ≡ from_host body host_body → r ≡ true → request_of CR body ≡ some (crash (get_or body host_at 0))
+  pub crash_yes : (h : ℕ) → IsFrom body host_body h → some (crash h) ≡ request_of CR body
   unfolding request_of
-  crash_yes e z = host_request crash body ∙ rw (← e, z)
+  crash_yes h f = sym (host_request crash body ∙ rw (f.yes, f.at))
 
-  pub crash_no : r ≡ from_host body host_body → r ≡ false → request_of CR body ≡ none
+  pub crash_no : from_host body host_body ≡ false → none ≡ request_of CR body
   unfolding request_of
-  crash_no e z = host_request crash body ∙ rw (← e, z)
+  crash_no z = sym (host_request crash body ∙ rw z)
 
-  pub monitor_yes : r ≡ from_host body process_body → r ≡ true → request_of MO body ≡ some (monitor (get_or body host_at 0) (number_at process_at process_width body))
+  pub monitor_yes : (h p : ℕ) → AreFrom body process_body h p → some (monitor h p) ≡ request_of MO body
   unfolding request_of
-  monitor_yes e z = monitor_request body ∙ rw (← e, z)
+  monitor_yes h p f = sym (monitor_request body ∙ rw (f.first.yes, f.first.at, f.second))
 
-  pub monitor_no : r ≡ from_host body process_body → r ≡ false → request_of MO body ≡ none
+  pub monitor_no : from_host body process_body ≡ false → none ≡ request_of MO body
   unfolding request_of
-  monitor_no e z = monitor_request body ∙ rw (← e, z)
+  monitor_no z = sym (monitor_request body ∙ rw z)

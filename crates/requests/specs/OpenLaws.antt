@@ -14,7 +14,7 @@ use Rattle.basis.specs.NumberLaws.{bytes_of_lem, number_at_lt}
 use Rattle.basis.specs.Sizes.{process_width, space_width, hosts, space_numbers, process_at, process_body, kind_body, space_body, host_at, space_at, kind_at}
 use Rattle.model.specs.Reading.{◌>>=◌, give, natural, whole_of}
 use Rattle.model.specs.Step.{MS, DS, Request, open_space, close_space, host, space_kind, open_body, close_body, request_of}
-use Rattle.requests.specs.Asking.{from_host}
+use Rattle.requests.specs.Asking.{from_host, AreFrom}
 use Rattle.requests.specs.BodyLaws.{host_read, process_read}
 
 -- host, process, and a last part read by p
@@ -138,29 +138,30 @@ open_request (a ∷ b ∷ c ∷ d ∷ e ∷ l) =
     go true = rw (kind_read d (e ∷ l)) (kind (leb d 1))
     go false = refl
 
-module _ (body : List ℕ) (r : Bool) where
-  pub close_yes : r ≡ from_host body space_body → r ≡ true → request_of DS body ≡ some (close_space (get_or body host_at 0) (number_at process_at process_width body) (number_at space_at space_width body))
+module _ (body : List ℕ) where
+  pub close_yes : (h p n : ℕ) → AreFrom body space_body h p → n ≡ number_at space_at space_width body → some (close_space h p n) ≡ request_of DS body
   unfolding request_of
-  close_yes e z = close_request body ∙ rw (← e, z)
+  close_yes h p n f e = sym (close_request body ∙ rw (f.first.yes, f.first.at, f.second, e))
 
-  pub close_no : r ≡ from_host body space_body → r ≡ false → request_of DS body ≡ none
+  pub close_no : from_host body space_body ≡ false → none ≡ request_of DS body
   unfolding request_of
-  close_no e z = close_request body ∙ rw (← e, z)
+  close_no z = sym (close_request body ∙ rw z)
 
   -- "byte absent: shared"
-  pub open_short : r ≡ from_host body process_body → r ≡ true → request_of MS body ≡ some (open_space (get_or body host_at 0) (number_at process_at process_width body) false)
+  pub open_short : (h p : ℕ) → AreFrom body process_body h p → some (open_space h p false) ≡ request_of MS body
   unfolding request_of
-  open_short e z = open_request body ∙ rw (← e, z)
+  open_short h p f = sym (open_request body ∙ rw (f.first.yes, f.first.at, f.second))
 
-  module _ (q : Bool) (e : r ≡ from_host body process_body) (z : r ≡ false) (f : q ≡ from_host body kind_body) where
-    pub open_no : q ≡ false → request_of MS body ≡ none
+  module _ (z : from_host body process_body ≡ false) where
+    pub open_no : from_host body kind_body ≡ false → none ≡ request_of MS body
     unfolding request_of
-    open_no y = open_request body ∙ rw (← e, z, ← f, y)
+    open_no y = sym (open_request body ∙ rw (z, y))
 
-    pub open_other : q ≡ true → 1 < get_or body kind_at 0 → request_of MS body ≡ none
-    unfolding request_of
-    open_other y h = let c : leb (get_or body kind_at 0) 1 ≡ false = lt-leb (get_or body kind_at 0) 1 h in open_request body ∙ rw (← e, z, ← f, y, c)
+    module _ (h p : ℕ) (f : AreFrom body kind_body h p) where
+      pub open_other : 1 < get_or body kind_at 0 → none ≡ request_of MS body
+      unfolding request_of
+      open_other k = let c : leb (get_or body kind_at 0) 1 ≡ false = lt-leb (get_or body kind_at 0) 1 k in sym (open_request body ∙ rw (z, f.first.yes, c))
 
-    pub open_yes : q ≡ true → get_or body kind_at 0 ≤ 1 → request_of MS body ≡ some (open_space (get_or body host_at 0) (number_at process_at process_width body) (eqb (get_or body kind_at 0) 1))
-    unfolding request_of
-    open_yes y h = let c : leb (get_or body kind_at 0) 1 ≡ true = le-leb (get_or body kind_at 0) 1 h in open_request body ∙ rw (← e, z, ← f, y, c)
+      pub open_yes : get_or body kind_at 0 ≤ 1 → some (open_space h p (eqb (get_or body kind_at 0) 1)) ≡ request_of MS body
+      unfolding request_of
+      open_yes k = let c : leb (get_or body kind_at 0) 1 ≡ true = le-leb (get_or body kind_at 0) 1 k in sym (open_request body ∙ rw (z, f.first.yes, c, f.first.at, f.second))

@@ -1,16 +1,17 @@
-// Check 6 of every record but AG: what its body asks, or that it is malformed.
+// Check 6 of every record but AG: what its body asks, if it is not malformed.
 #![tactic(auto)]
 
-ghost use Rattle.std.specs.Prelude.{◌≡◌, ◌≤◌, ◌<◌};
-ghost use Rattle.basis.specs.Sizes.{hosts};
+ghost use Rattle.std.specs.Prelude.{◌≡◌, ◌≢◌, ◌≤◌, ◌<◌, false, MatchOption, IfSome};
+ghost use Rattle.basis.specs.Sizes.{process_body};
 ghost use Rattle.model.specs.Step.{RV, CR, MO, MS, DS, request_of};
-ghost use Rattle.framing.specs.Marks.{mark_at};
-ghost use Rattle.requests.specs.Asking.{from_host, asked_is, Within};
+ghost use Rattle.framing.specs.Marks.{marked};
+ghost use Rattle.requests.specs.Asking.{from_host, IsFrom, AreFrom, asked_is, Within};
+
+use framing::Mark;
 
 // What a record asks, with host, process, and whether the space is private, or its number.
 #[derive(Clone, Copy)]
-pub enum Asked {
-    Malformed,
+pub enum Request {
     Recover(u8),
     Crash(u8),
     Monitor(u8, u16),
@@ -18,92 +19,89 @@ pub enum Asked {
     Close(u8, u16, u16),
 }
 
-// Whether a body has n bytes, the first a host: "Host is one byte, 0 to 15".
-fn from_host(body: &[u8], n: usize) -> bool
+// The first byte of a body of n bytes, if it is a host: "Host is one byte, 0 to 15".
+fn read_host(body: &[u8], n: usize) -> Option<u8>
     requires { 0 < n }
-    ensures { result ≡ from_host body.now n }
+    ensures { MatchOption result (from_host body.now n ≡ false) (IsFrom body.now n) }
 {
     if body.len() != n {
-        return false;
+        return None;
     }
-    body[words::HOST_AT] < words::HOSTS
+    let host = body[words::HOST_AT];
+    if words::HOSTS <= host {
+        return None;
+    }
+    Some(host)
+}
+
+// The host and the process that a body of n bytes begins with.
+fn read_asker(body: &[u8], n: usize) -> Option<(u8, u16)>
+    requires { process_body ≤ n }
+    ensures { MatchOption result (from_host body.now n ≡ false) (λ r. AreFrom body.now n r.0 r.1) }
+{
+    let host = read_host(body, n)?;
+    Some((host, words::word2(body, words::PROCESS_AT)))
 }
 
 // "`RV` host".
-fn read_recover(body: &[u8]) -> Asked
-    ensures { (asked_is result ≡ request_of RV body.now) × Within result }
+fn read_recover(body: &[u8]) -> Option<Request>
+    ensures { (asked_is result ≡ request_of RV body.now) × IfSome result Within }
 {
-    if !from_host(body, words::HOST_BODY) {
-        return Asked::Malformed;
-    }
-    let host = body[words::HOST_AT];
-    Asked::Recover(host)
+    let host = read_host(body, words::HOST_BODY)?;
+    Some(Request::Recover(host))
 }
 
 // "`CR` host".
-fn read_crash(body: &[u8]) -> Asked
-    ensures { (asked_is result ≡ request_of CR body.now) × Within result }
+fn read_crash(body: &[u8]) -> Option<Request>
+    ensures { (asked_is result ≡ request_of CR body.now) × IfSome result Within }
 {
-    if !from_host(body, words::HOST_BODY) {
-        return Asked::Malformed;
-    }
-    let host = body[words::HOST_AT];
-    Asked::Crash(host)
+    let host = read_host(body, words::HOST_BODY)?;
+    Some(Request::Crash(host))
 }
 
 // "`MO` host, process".
-fn read_monitor(body: &[u8]) -> Asked
-    ensures { (asked_is result ≡ request_of MO body.now) × Within result }
+fn read_monitor(body: &[u8]) -> Option<Request>
+    ensures { (asked_is result ≡ request_of MO body.now) × IfSome result Within }
 {
-    if !from_host(body, words::PROCESS_BODY) {
-        return Asked::Malformed;
-    }
-    let host = body[words::HOST_AT];
-    Asked::Monitor(host, words::word2(body, words::PROCESS_AT))
+    let (host, process) = read_asker(body, words::PROCESS_BODY)?;
+    Some(Request::Monitor(host, process))
 }
 
 // "`MS` host, process, kind byte (0 shared, 1 private to the process; byte absent: shared)".
-fn read_open(body: &[u8]) -> Asked
-    ensures { (asked_is result ≡ request_of MS body.now) × Within result }
+fn read_open(body: &[u8]) -> Option<Request>
+    ensures { (asked_is result ≡ request_of MS body.now) × IfSome result Within }
 {
-    if from_host(body, words::PROCESS_BODY) {
-        let host = body[words::HOST_AT];
-        return Asked::Open(host, words::word2(body, words::PROCESS_AT), false);
+    if let Some((host, process)) = read_asker(body, words::PROCESS_BODY) {
+        return Some(Request::Open(host, process, false));
     }
-    if !from_host(body, words::KIND_BODY) {
-        return Asked::Malformed;
-    }
+    let (host, process) = read_asker(body, words::KIND_BODY)?;
     let kind = body[words::KIND_AT];
     if 1 < kind {
-        return Asked::Malformed;
+        return None;
     }
-    let host = body[words::HOST_AT];
-    Asked::Open(host, words::word2(body, words::PROCESS_AT), kind == 1)
+    Some(Request::Open(host, process, kind == 1))
 }
 
 // "`DS` host, process, space", which has two bytes.
-fn read_close(body: &[u8]) -> Asked
-    ensures { (asked_is result ≡ request_of DS body.now) × Within result }
+fn read_close(body: &[u8]) -> Option<Request>
+    ensures { (asked_is result ≡ request_of DS body.now) × IfSome result Within }
 {
-    if !from_host(body, words::SPACE_BODY) {
-        return Asked::Malformed;
-    }
-    let host = body[words::HOST_AT];
-    let process = words::word2(body, words::PROCESS_AT);
+    let (host, process) = read_asker(body, words::SPACE_BODY)?;
     let space = words::space_number(body, words::SPACE_AT);
-    Asked::Close(host, process, space)
+    Some(Request::Close(host, process, space))
 }
 
-// By the mark's number, of those but AG.
-pub fn read(mark: u8, body: &[u8]) -> Asked
-    requires { (1 ≤ mark) × (mark ≤ 5) }
-    ensures { (asked_is result ≡ request_of (mark_at mark) body.now) × Within result }
+// By the mark, of those but AG.
+pub fn read(mark: Mark, body: &[u8]) -> Option<Request>
+    requires { mark ≢ Mark.Statement }
+    ensures { (asked_is result ≡ request_of (marked mark) body.now) × IfSome result Within }
 {
     match mark {
-        1 => read_recover(body),
-        2 => read_crash(body),
-        3 => read_monitor(body),
-        4 => read_open(body),
-        _ => read_close(body),
+        Mark::Recover => read_recover(body),
+        Mark::Crash => read_crash(body),
+        Mark::Monitor => read_monitor(body),
+        Mark::Open => read_open(body),
+        Mark::Close => read_close(body),
+        Mark::Statement => unreachable!(),
     }
 }

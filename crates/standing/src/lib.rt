@@ -8,6 +8,9 @@ ghost use Rattle.model.specs.Step.{checks, standing, recover, crash, monitor, op
 ghost use Rattle.layout.specs.States.{decode};
 ghost use Rattle.layout.specs.Stored.{IsStored};
 ghost use Rattle.order.specs.Refusal.{refusal, used_up};
+ghost use Rattle.order.specs.Told.{told};
+
+use order::Refusal;
 
 // ---- the host and the process that ask
 
@@ -29,80 +32,74 @@ fn process_waits(state: &[u8], process: u16) -> bool
 }
 
 // 7, "host not up", and 9, "process waits already".
-pub fn refuse_standing(state: &[u8], host: u8, process: u16) -> u8
+pub fn refuse_standing(state: &[u8], host: u8, process: u16) -> Result<(), Refusal>
     requires { IsStored state.now × (host < hosts) }
-    ensures { result ≡ refusal (standing (decode state.now) host process) }
+    ensures { told result ≡ refusal (standing (decode state.now) host process) }
 {
     if !host_is_up(state, host) {
-        return 7;
+        return Err(Refusal::HostDown);
     }
     if process_waits(state, process) {
-        return 9;
+        return Err(Refusal::ProcessWaits);
     }
-    0
+    Ok(())
 }
 
 // ---- the records that need no more than the counts
 
 // RV: 8, "host already up".
-pub fn refuse_recover(state: &[u8], host: u8) -> u8
+pub fn refuse_recover(state: &[u8], host: u8) -> Result<(), Refusal>
     requires { IsStored state.now × (host < hosts) }
-    ensures { result ≡ refusal (checks (decode state.now) (recover host)) }
+    ensures { told result ≡ refusal (checks (decode state.now) (recover host)) }
 {
     if host_is_up(state, host) {
-        return 8;
+        return Err(Refusal::HostUp);
     }
-    0
+    Ok(())
 }
 
 // CR: 7. "Refusal 12 no longer occurs for a crash".
-pub fn refuse_crash(state: &[u8], host: u8) -> u8
+pub fn refuse_crash(state: &[u8], host: u8) -> Result<(), Refusal>
     requires { IsStored state.now × (host < hosts) }
-    ensures { result ≡ refusal (checks (decode state.now) (crash host)) }
+    ensures { told result ≡ refusal (checks (decode state.now) (crash host)) }
 {
     if !host_is_up(state, host) {
-        return 7;
+        return Err(Refusal::HostDown);
     }
-    0
+    Ok(())
 }
 
 // MO: 7 and 9, then 14, where the monitors are used up.
-pub fn refuse_monitor(state: &[u8], host: u8, process: u16) -> u8
+pub fn refuse_monitor(state: &[u8], host: u8, process: u16) -> Result<(), Refusal>
     requires { IsStored state.now × (host < hosts) }
-    ensures { result ≡ refusal (checks (decode state.now) (monitor host process)) }
+    ensures { told result ≡ refusal (checks (decode state.now) (monitor host process)) }
 {
-    let r = refuse_standing(state, host, process);
-    if r != 0 {
-        return r;
-    }
+    refuse_standing(state, host, process)?;
     if words::MOST_MONITORS <= header::monitors(state) {
-        return 14;
+        return Err(Refusal::UsedUp);
     }
-    0
+    Ok(())
 }
 
 // 14 of spaces: as many as can be are open, or their numbers are used up.
-fn refuse_more(state: &[u8]) -> u8
+fn refuse_more(state: &[u8]) -> Result<(), Refusal>
     requires { IsStored state.now }
-    ensures { result ≡ refusal (used_up (decode state.now)) }
+    ensures { told result ≡ refusal (used_up (decode state.now)) }
 {
     if words::MOST_SPACES <= header::space_count(state) {
-        return 14;
+        return Err(Refusal::UsedUp);
     }
     if words::SPACE_NUMBERS <= header::next(state) {
-        return 14;
+        return Err(Refusal::UsedUp);
     }
-    0
+    Ok(())
 }
 
 // MS: 7 and 9, then 14.
-pub fn refuse_open(state: &[u8], host: u8, process: u16) -> u8
+pub fn refuse_open(state: &[u8], host: u8, process: u16) -> Result<(), Refusal>
     requires { IsStored state.now × (host < hosts) }
-    ensures { (isPrivate : Bool) → result ≡ refusal (checks (decode state.now) (open_space host process isPrivate)) }
+    ensures { (isPrivate : Bool) → told result ≡ refusal (checks (decode state.now) (open_space host process isPrivate)) }
 {
-    let r = refuse_standing(state, host, process);
-    if r != 0 {
-        return r;
-    }
+    refuse_standing(state, host, process)?;
     refuse_more(state)
 }

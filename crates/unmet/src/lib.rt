@@ -1,23 +1,25 @@
 // A statement with no guard that holds: what it is refused with, or that it waits.
 #![tactic(auto)]
 
-ghost use Rattle.std.specs.Prelude.{◌≡◌, length};
+ghost use Rattle.std.specs.Prelude.{◌≡◌, length, OnOk};
 ghost use Rattle.model.specs.Statement.{Statement};
 ghost use Rattle.model.specs.Execution.{can_wait};
 ghost use Rattle.model.specs.Run.{Run};
 ghost use Rattle.model.specs.Step.{unmet};
 ghost use Rattle.unmet.specs.Unmet.{answered_by, Waits};
 
-// 18 where it does not wait, since no guard is in or rd; 13, "must wait, 32 wait"; 0 where it waits.
-pub fn refusal(waits: bool, waiting: usize) -> u8
+use order::Refusal;
+
+// 18 where it does not wait, since no guard is in or rd; 13, "must wait, 32 wait"; none where it waits.
+pub fn refusal(waits: bool, waiting: usize) -> Result<(), Refusal>
     ensures answer { (s : Run) (st : Statement) → can_wait st ≡ waits → length s.waiting ≡ waiting → unmet s st ≡ answered_by result s st }
-    ensures waits { result ≡ 0 → Waits waits waiting }
+    ensures waits { OnOk result (Waits waits waiting) }
 {
     if !waits {
-        return 18;
+        return Err(Refusal::CannotWait);
     }
     if words::MOST_WAITING <= waiting {
-        return 13;
+        return Err(Refusal::QueueFull);
     }
-    0
+    Ok(())
 }

@@ -9,11 +9,11 @@ returns-then-input-lt-BODY_AT c = record_short c.args.input.now c.if-input-lt-BO
 pub mark_of-requires : goal.mark_of-requires
 mark_of-requires c = omega (arith, c.if-input-lt-BODY_AT.false)
 
-pub returns-then-mark_of-eq0 : goal.returns-then-mark_of-eq0
-returns-then-mark_of-eq0 c = record_unmarked c.args.input.now c.mark_of.result c.mark_of.ensures c.if-mark_of-eq0.true
+pub returns-then-is_none : goal.returns-then-is_none
+returns-then-is_none c = record_unmarked c.args.input.now c.mark_of.result c.mark_of.ensures c.if-is_none.ensures
 
 pub number-requires : goal.number-requires
 number-requires c = omega (arith, c.if-input-lt-BODY_AT.false)
 
 pub returns : goal.returns
-returns c = record_sized c.args.input.now c.mark_of.result c.number.result c.mark_of.ensures c.if-mark_of-eq0.false c.number.ensures.0
+returns c = record_sized c.args.input.now c.mark_of.result c.number.result c.mark_of.ensures c.if-is_none.ensures c.number.ensures.0

@@ -22,4 +22,4 @@ returns c =
     let a = c.args in
     let i = c.is_record in
     let p = c.number-position in
-    at_turn a.last a.input.now a.reply.now i.result p.result c.out_of_turn.result (omega (arith, c.if-reply-lt-REPLY.false)) i.ensures c.if-not-is_record.false p.ensures.0 c.out_of_turn.ensures
+    at_turn a.last a.input.now a.reply.now i.result p.result _ (omega (arith, c.if-reply-lt-REPLY.false)) i.ensures c.if-not-is_record.false p.ensures.0 c.out_of_turn.ensures

@@ -1,27 +1,9 @@
 -- `requests::read_recover` meets its contract. Assumes nothing.
-use native.Mathlib.Omega.{arith}
-use mathlib.Core.Path.{◌≡◌, sym}
-use Prim.Native.Nat.{ℕ, ◌<◌}
-use mathlib.Core.List.{List}
-use lib.ListN.{length, get_or}
-use Rattle.basis.specs.Sizes.{hosts, host_body, host_at}
-use Rattle.requests.specs.BodyLaws.{from_host_lem, recover_yes, recover_no}
+use Rattle.requests.specs.BodyLaws.{recover_yes, recover_no}
 use Rattle.requests.proofs.read_recover.Goals as goal
-use Rattle.requests.proofs.read_recover.Goals.{Else-not-from_host}
 
-pub returns-then-not-from_host : goal.returns-then-not-from_host
-returns-then-not-from_host c = let h = c.from_host in (sym (recover_no c.args.body.now h.result h.ensures c.if-not-from_host.true), tt)
-
--- the length and the host are right
-module _ (m : Else-not-from_host) where
-  abbrev body : List ℕ
-  body = m.args.body.now
-
-  head : (length body ≡ host_body) × (get_or body host_at 0 < hosts)
-  head = from_host_lem body host_body m.from_host.result m.from_host.ensures m.if-not-from_host.false
-
-pub bounds-body-0 : goal.bounds-body-0
-bounds-body-0 c = omega (arith, (head (goal.at.bounds-body-0 c).Else-not-from_host).0)
+pub returns-in_err-host : goal.returns-in_err-host
+returns-in_err-host c = rw c.from_residual.ensures (recover_no c.args.body.now c.in_err-host.ensures, tt)
 
 pub returns : goal.returns
-returns c = let h = c.from_host in (sym (recover_yes (body (goal.at.returns c).Else-not-from_host) h.result h.ensures c.if-not-from_host.false), (head (goal.at.returns c).Else-not-from_host).1)
+returns c = (recover_yes c.args.body.now _ c.in_ok-host.ensures, c.in_ok-host.ensures.small)

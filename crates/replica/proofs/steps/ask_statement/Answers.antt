@@ -13,7 +13,7 @@ returns-then-not-body_ok c =
     let a = c.args in
     let h = c.body_ok in
     let d = c.malformed in
-    asked_as AG a.body.now (decode a.state.now) none a.out.now a.state.now d.new.out d.result (sym (statement_no a.body.now h.result h.ensures c.if-not-body_ok.true)) d.ensures
+    asked_as AG a.body.now (decode a.state.now) none a.out.now a.state.now d.new.out d.result.size (sym (statement_no a.body.now h.result h.ensures c.if-not-body_ok.true)) d.ensures
 
 pub handle_statement-requires : goal.handle_statement-requires
 handle_statement-requires c = (c.requires.0, true_is _ (sym c.body_ok.ensures ∙ c.if-not-body_ok.false), c.requires.1, c.requires.2)

@@ -1,6 +1,7 @@
 -- `replica::steps::refuse_body` meets its contract. Assumes nothing.
 use native.Mathlib.Omega.{arith}
 use Rattle.layout.specs.States.{decode}
+use Rattle.order.specs.Told.{number_of}
 use Rattle.walk.specs.Walk.{body_is}
 use Rattle.replica.specs.HandleLaws.{refused_body}
 use Rattle.replica.proofs.steps.refuse_body.Goals as goal
@@ -16,4 +17,4 @@ returns c =
     let a = c.args in
     let w = c.word2 in
     let d = c.refuse in
-    refused_body (decode a.state.now) a.body.now w.result a.outcome a.out.now a.state.now d.new.out d.result c.requires.1 w.ensures d.ensures
+    refused_body (decode a.state.now) a.body.now w.result (number_of a.outcome) a.out.now a.state.now d.new.out d.result.size c.requires.1 w.ensures d.ensures

@@ -21,4 +21,4 @@ pub returns : goal.returns
 returns c =
     let a = c.args in
     let s = c.is_state in
-    back_at a.state.now a.input.now a.reply.now s.result s.ensures c.last.result c.refusal_at.result c.if-not-is_state.false c.last.ensures.0 c.refusal_at.ensures
+    back_at a.state.now a.input.now a.reply.now s.result s.ensures c.last.result _ c.if-not-is_state.false c.last.ensures.0 c.refusal_at.ensures
