@@ -33,5 +33,5 @@ pub fn without_host(up: u16, host: u8) -> u16
 pub fn hosts_up(up: u16) -> u32
     ensures { result ≡ count (bits hosts up) }
 {
-    u16::count_ones(up)
+    up.count_ones()
 }
