@@ -27,10 +27,7 @@ pub fn move_down(a: &mut [u8], to: usize, from: usize, n: usize)
     requires { (to ≤ from) × (from + n ≤ length a.old) }
     ensures { a.new ≡ over a.old to (drop from a.old) n }
 {
-    // Not `copy_within`, which takes 1.4 times as long here.
-    for i in 0..n {
-        a[to + i] = a[from + i];
-    }
+    a.copy_within(from..from + n, to);
 }
 
 // The n bytes of a row, those from index from on, moved to any index, by way of a copy: where n is a constant, the compiler then moves them in few
