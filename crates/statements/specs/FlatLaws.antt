@@ -1,6 +1,7 @@
 -- The parts read at a position are those of the field there. Assumes nothing.
 use Rattle.std.specs.Prelude.{◌≡◌, refl, ℕ, zero, suc, ◌+◌, ◌≤◌, ◌<◌, ◌⊎◌, List, get_or, T}
-use Rattle.std.proofs.Common.{arith, inl, inr, lt→ltb}
+use Rattle.std.proofs.Common.{sym, ◌∙◌, arith, inl, inr, lt→ltb}
+use Rattle.std.proofs.Math.Option.{some, none-ne-some}
 use Rattle.basis.specs.Numbers.{number_at}
 use Rattle.basis.specs.Sizes.{form_width, kind_width, variable_width, bits_width, value_bits_at, sum_bits_at, highest_at, range_variable_at}
 use Rattle.statements.specs.At.{which}
@@ -9,12 +10,12 @@ use Rattle.statements.specs.Flat.{forms, has_form, field_of}
 use Rattle.statements.specs.declared.Field.{Field}
 
 -- a form that has a width is one of the seven
-pub form_known : (f : Field) (form : ℕ) → f.form ≡ form → 0 < width_of form → T (has_form f)
+pub form_known : (f : Field) (form width : ℕ) → f.form ≡ form → width_of form ≡ some width → T (has_form f)
 unfolding has_form
-form_known f form e w = lt→ltb f.form forms (go (which forms form))
+form_known f form width e w = lt→ltb f.form forms (go (which forms form))
   where
     go : (forms ≤ form) ⊎ (form < forms) → f.form < forms
-    go (inl l) = absurd (omega (arith, width_past form l))
+    go (inl l) = absurd (none-ne-some width (sym (width_past form l) ∙ w))
     go (inr l) = omega arith
 
 pub parts_actual : (b : List ℕ) (at n : ℕ) → get_or b at 0 ≡ 0 → n ≡ number_at (at + form_width + value_bits_at) bits_width b → field_of (get_or b at 0) (get_or b (at + form_width) 0) 0 n 0 ≡ field_parts b at
