@@ -9,11 +9,6 @@ use Rattle.fields.specs.Kinds.{kinds_are, kinds_set}
 use Rattle.fields.specs.FieldLaws.{binder_parts}
 use Rattle.fields.proofs.bind_kind.Goals as goal
 
-pub overflow_add-kinds : goal.overflow_add-kinds
-overflow_add-kinds c =
-    let b : Binder = binder_in c.args.f in
-    omega (arith, (binder_parts (kinds_are c.args.now) b (c.requires b (binds_some c.args.f c.binds.result c.binds.ensures c.if-binds.true))).0)
-
 pub bounds-kinds-size : goal.bounds-kinds-size
 bounds-kinds-size c =
     let b : Binder = binder_in c.args.f in

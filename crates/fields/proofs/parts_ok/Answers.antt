@@ -6,7 +6,7 @@ use Rattle.model.specs.Value.{value}
 use Rattle.model.specs.Legal.{summable}
 use Rattle.statements.specs.Flat.{field_is}
 use Rattle.fields.specs.Kinds.{kinds_are}
-use Rattle.fields.specs.FieldLaws.{bound_some, parts_actual, parts_formal, parts_reference, parts_sum, parts_anonymous, parts_range}
+use Rattle.fields.specs.FieldLaws.{some_given, parts_actual, parts_formal, parts_reference, parts_sum, parts_anonymous, parts_range}
 use Rattle.fields.proofs.parts_ok.Goals as goal
 
 pub returns-in-0 : goal.returns-in-0
@@ -19,7 +19,7 @@ returns-in-1 c = parts_formal (kinds_are c.args.earlier) c.args.f.form c.args.f.
 
 pub returns-in-2 : goal.returns-in-2
 unfolding field_is
-returns-in-2 c = bound_some c.kind_at.result ∙ ap is_some c.kind_at.ensures ∙ parts_reference (kinds_are c.args.earlier) c.args.f.form c.args.f.kind c.args.f.variable c.args.f.bits c.args.f.highest c.in-2.is
+returns-in-2 c = c.is_some.ensures ∙ some_given c.kind_at.result ∙ ap is_some c.kind_at.ensures ∙ parts_reference (kinds_are c.args.earlier) c.args.f.form c.args.f.kind c.args.f.variable c.args.f.bits c.args.f.highest c.in-2.is
 
 pub returns-in-5 : goal.returns-in-5
 unfolding field_is
