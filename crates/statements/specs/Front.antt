@@ -1,13 +1,13 @@
 -- What stands before the fields of an operation, and the operation as it is read after it or passed over. Assumes nothing.
 use Rattle.std.specs.Prelude as code
-use Rattle.std.specs.Prelude.{◌≡◌, Bool, true, length, take, get_or, None, Some}
+use Rattle.std.specs.Prelude.{◌≡◌, Bool, true, length, take, get_or, None, Some, T}
 use Rattle.std.proofs.Math.Path.{refl, sym, ap}
 use Rattle.std.proofs.Common.{◌∙◌}
 use Prim.Native.Nat.{ℕ, zero, suc, ◌+◌, ◌≤◌, ◌<◌}
 use native.Mathlib.Omega.{arith}
 use Rattle.std.proofs.Math.Option.{Option, none, some, map}
 use mathlib.Core.List.{List, [], ◌∷◌}
-use Rattle.basis.specs.Choice.{maybe, provided}
+use Rattle.basis.specs.Choice.{maybe, is_some, provided}
 use Rattle.basis.specs.Lists.{all}
 use Rattle.basis.specs.Numbers.{number_at}
 use Rattle.basis.specs.Sizes.{code_width, count_width, space_width, most_fields}
@@ -56,6 +56,11 @@ bare (transfer withdraws from to fs) = transfer withdraws from to []
 -- with the position after it
 unfoldable pub bare_at : Option (model.Operation × ℕ) → Option (model.Operation × ℕ)
 bare_at o = map (λ r. (bare r.0, r.1)) o
+
+pub some_bare : (o : Option (model.Operation × ℕ)) → T (is_some o) → T (is_some (bare_at o))
+unfolding bare_at is_some
+some_bare none t = absurd t
+some_bare (some r) t = tt
 
 -- what the code passed over
 abbrev pub bare_is : code.Option (Bare × ℕ) → Option (model.Operation × ℕ)
