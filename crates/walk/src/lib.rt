@@ -30,8 +30,7 @@ pub fn operations_end(b: &[u8], at: usize, count: usize) -> Option<usize>
 {
     let mut end = at;
     for _ in 0..count {
-        let (_, next) = pass_operation(b, end)?;
-        end = next;
+        (_, end) = pass_operation(b, end)?;
     }
     Some(end)
 }
