@@ -18,34 +18,35 @@ form_known f form width e w = lt→ltb f.form forms (go (which forms form))
     go (inl l) = absurd (none-ne-some width (sym (width_past form l) ∙ w))
     go (inr l) = omega arith
 
-pub parts_actual : (b : List ℕ) (at n : ℕ) → get_or b at 0 ≡ 0 → n ≡ number_at (at + form_width + value_bits_at) bits_width b → field_of (get_or b at 0) (get_or b (at + form_width) 0) 0 n 0 ≡ field_parts b at
+-- the parts that a form lacks make no difference
+pub parts_actual : (b : List ℕ) (at x n m : ℕ) → get_or b at 0 ≡ 0 → n ≡ number_at (at + form_width + value_bits_at) bits_width b → field_of (get_or b at 0) (get_or b (at + form_width) 0) x n m ≡ field_parts b at
 unfolding field_of field_parts field_after
-parts_actual b at n e h = rw (e, h)
+parts_actual b at x n m e h = rw (e, h)
 
-pub parts_formal : (b : List ℕ) (at : ℕ) → get_or b at 0 ≡ 1 → field_of (get_or b at 0) (get_or b (at + form_width) 0) (get_or b (at + form_width + kind_width) 0) 0 0 ≡ field_parts b at
+pub parts_formal : (b : List ℕ) (at n m : ℕ) → get_or b at 0 ≡ 1 → field_of (get_or b at 0) (get_or b (at + form_width) 0) (get_or b (at + form_width + kind_width) 0) n m ≡ field_parts b at
 unfolding field_of field_parts field_after
-parts_formal b at e = rw e
+parts_formal b at n m e = rw e
 
-pub parts_reference : (b : List ℕ) (at : ℕ) → get_or b at 0 ≡ 2 → field_of (get_or b at 0) 0 (get_or b (at + form_width) 0) 0 0 ≡ field_parts b at
+pub parts_reference : (b : List ℕ) (at k n m : ℕ) → get_or b at 0 ≡ 2 → field_of (get_or b at 0) k (get_or b (at + form_width) 0) n m ≡ field_parts b at
 unfolding field_of field_parts field_after
-parts_reference b at e = rw e
+parts_reference b at k n m e = rw e
 
-pub parts_sum : (b : List ℕ) (at n : ℕ) → 3 ≤ get_or b at 0 → get_or b at 0 < 5 → n ≡ number_at (at + form_width + sum_bits_at) bits_width b
-    → field_of (get_or b at 0) (get_or b (at + form_width + variable_width) 0) (get_or b (at + form_width) 0) n 0 ≡ field_parts b at
+pub parts_sum : (b : List ℕ) (at n m : ℕ) → 3 ≤ get_or b at 0 → get_or b at 0 < 5 → n ≡ number_at (at + form_width + sum_bits_at) bits_width b
+    → field_of (get_or b at 0) (get_or b (at + form_width + variable_width) 0) (get_or b (at + form_width) 0) n m ≡ field_parts b at
 unfolding field_of field_parts field_after
-parts_sum b at n l h e = rw e (go (get_or b at 0) l h)
+parts_sum b at n m l h e = rw e (go (get_or b at 0) l h)
   where
-    go : (form : ℕ) → 3 ≤ form → form < 5 → field_of form (get_or b (at + form_width + variable_width) 0) (get_or b (at + form_width) 0) (number_at (at + form_width + sum_bits_at) bits_width b) 0 ≡ field_after form b (at + form_width)
+    go : (form : ℕ) → 3 ≤ form → form < 5 → field_of form (get_or b (at + form_width + variable_width) 0) (get_or b (at + form_width) 0) (number_at (at + form_width + sum_bits_at) bits_width b) m ≡ field_after form b (at + form_width)
     go zero l h = absurd (omega arith)
     go (suc zero) l h = absurd (omega arith)
     go (suc (suc zero)) l h = absurd (omega arith)
     go (suc (suc (suc zero))) l h = refl
     go (suc (suc (suc (suc zero)))) l h = refl
-    go (suc (suc (suc (suc (suc m))))) l h = absurd (omega arith)
+    go (suc (suc (suc (suc (suc k))))) l h = absurd (omega arith)
 
-pub parts_anonymous : (b : List ℕ) (at : ℕ) → get_or b at 0 ≡ 5 → field_of (get_or b at 0) (get_or b (at + form_width) 0) 0 0 0 ≡ field_parts b at
+pub parts_anonymous : (b : List ℕ) (at x n m : ℕ) → get_or b at 0 ≡ 5 → field_of (get_or b at 0) (get_or b (at + form_width) 0) x n m ≡ field_parts b at
 unfolding field_of field_parts field_after
-parts_anonymous b at e = rw e
+parts_anonymous b at x n m e = rw e
 
 pub parts_ranged : (b : List ℕ) (at n m : ℕ) → 6 ≤ get_or b at 0 → n ≡ number_at (at + form_width + value_bits_at) bits_width b → m ≡ number_at (at + form_width + highest_at) bits_width b
     → field_of (get_or b at 0) (get_or b (at + form_width) 0) (get_or b (at + form_width + range_variable_at) 0) n m ≡ field_parts b at

@@ -27,12 +27,12 @@ use Rattle.statements.specs.declared.Front.{Front}
 
 -- the operation of a front: its fields stand from a position on
 unfoldable pub after_front : Front → List ℕ → Option (model.Operation × ℕ)
-after_front f b = maybe (read_at (several field f.count) b f.at) none (λ r. some (operation_of f.code f.from f.to r.0, r.1))
+after_front f b = maybe (read_at (several field f.count) b f.at) none (λ r. some (operation_of f.bare.code f.bare.from f.bare.to r.0, r.1))
 
 -- a front is that of this operation, of one of the eight codes, with at most as many fields as a tuple has values
 pub record FrontOf (f : Front) (b : List ℕ) (o : Option (model.Operation × ℕ)) : Type 0 where
   pub is : after_front f b ≡ o
-  pub code : f.code < codes
+  pub code : f.bare.code < codes
   pub count : f.count ≤ most_fields
   pub within : f.at ≤ length b
 
@@ -96,7 +96,7 @@ fields_end count b at = go (read_at (several field count) b at)
 -- ---- the front
 
 -- true has no more bytes
-pub front_always : (f : Front) (b : List ℕ) (at : ℕ) → at < length b → get_or b at 0 ≡ 0 → f.at ≡ at + code_width → f.code ≡ 0 → f.count ≡ 0 → FrontOf f b (operation_at b at)
+pub front_always : (f : Front) (b : List ℕ) (at : ℕ) → at < length b → get_or b at 0 ≡ 0 → f.at ≡ at + code_width → f.bare.code ≡ 0 → f.count ≡ 0 → FrontOf f b (operation_at b at)
 unfolding after_front several give operation_of
 front_always f b at h z e c n =
     let read : read_at (several field 0) b (at + code_width) ≡ some ([], at + code_width) = some_read_at (several field 0) b (at + code_width) [] (at + code_width) refl (omega arith) in
@@ -114,12 +114,12 @@ module _ (b : List ℕ) (at code : ℕ) (some : 0 < code) (few : code < codes) (
   pub front_many : at + width < length b → most_fields < get_or b (at + width) 0 → none ≡ passed few_fields (read_at (after_code code) b at)
   front_many h m = sym (fields_many code (number_at at space_width b) (second_space b at code) b (at + width) some h m) ∙ after (number_at at space_width b) (second_space b at code) h refl refl
 
-  pub front_there : (f : Front) → at + width < length b → f.at ≡ at + width + count_width → f.code ≡ code → f.from ≡ number_at at space_width b → f.to ≡ second_space b at code
+  pub front_there : (f : Front) → at + width < length b → f.at ≡ at + width + count_width → f.bare.code ≡ code → f.bare.from ≡ number_at at space_width b → f.bare.to ≡ second_space b at code
       → f.count ≡ get_or b (at + width) 0 → f.count ≤ most_fields → FrontOf f b (passed few_fields (read_at (after_code code) b at))
   unfolding after_front
   front_there f h e c from to n m =
       record {
-        is = rw (e, c, n) (fields_few code f.from f.to b (at + width) some h (omega arith) ∙ after f.from f.to h from to);
+        is = rw (e, c, n) (fields_few code f.bare.from f.bare.to b (at + width) some h (omega arith) ∙ after f.bare.from f.bare.to h from to);
         code = omega arith;
         count = m;
         within = omega arith;
@@ -148,20 +148,20 @@ spaces_bare (transfer withdraws from to fs) = refl
 -- the fields of a front are read, or their end is found
 module _ (f : Front) (b : List ℕ) (o : Option (model.Operation × ℕ)) (h : FrontOf f b o) where
   pub fields_read_lem : (r : code.Option (List Field × ℕ)) → fields_read f.count r ≡ read_at (several field f.count) b f.at
-      → read_as (λ fs. operation_of f.code f.from f.to (fields_are (take f.count fs))) r ≡ o
+      → read_as (λ fs. operation_of f.bare.code f.bare.from f.bare.to (fields_are (take f.count fs))) r ≡ o
   unfolding after_front
-  fields_read_lem r e = go r ∙ ap (λ (x : Option (List model.Field × ℕ)). maybe {B = Option (model.Operation × ℕ)} x none (λ y. some (operation_of f.code f.from f.to y.0, y.1))) e ∙ h.is
+  fields_read_lem r e = go r ∙ ap (λ (x : Option (List model.Field × ℕ)). maybe {B = Option (model.Operation × ℕ)} x none (λ y. some (operation_of f.bare.code f.bare.from f.bare.to y.0, y.1))) e ∙ h.is
     where
       go : (r : code.Option (List Field × ℕ))
-          → read_as (λ fs. operation_of f.code f.from f.to (fields_are (take f.count fs))) r ≡ maybe {B = Option (model.Operation × ℕ)} (fields_read f.count r) none (λ y. some (operation_of f.code f.from f.to y.0, y.1))
+          → read_as (λ fs. operation_of f.bare.code f.bare.from f.bare.to (fields_are (take f.count fs))) r ≡ maybe {B = Option (model.Operation × ℕ)} (fields_read f.count r) none (λ y. some (operation_of f.bare.code f.bare.from f.bare.to y.0, y.1))
       go None = refl
       go (Some r) = refl
 
-  pub fields_passed : (end : Option ℕ) → end ≡ ended (read_at (several field f.count) b f.at) → maybe {B = Option (model.Operation × ℕ)} end none (λ x. some (operation_of f.code f.from f.to [], x)) ≡ bare_at o
+  pub fields_passed : (end : Option ℕ) → end ≡ ended (read_at (several field f.count) b f.at) → maybe {B = Option (model.Operation × ℕ)} end none (λ x. some (operation_of f.bare.code f.bare.from f.bare.to [], x)) ≡ bare_at o
   unfolding after_front bare_at ended
   fields_passed end e = rw (e, ← h.is) (go (read_at (several field f.count) b f.at))
     where
-      go : (x : Option (List model.Field × ℕ)) → maybe {B = Option (model.Operation × ℕ)} (ended x) none (λ z. some (operation_of f.code f.from f.to [], z))
-          ≡ bare_at (maybe {B = Option (model.Operation × ℕ)} x none (λ y. some (operation_of f.code f.from f.to y.0, y.1)))
+      go : (x : Option (List model.Field × ℕ)) → maybe {B = Option (model.Operation × ℕ)} (ended x) none (λ z. some (operation_of f.bare.code f.bare.from f.bare.to [], z))
+          ≡ bare_at (maybe {B = Option (model.Operation × ℕ)} x none (λ y. some (operation_of f.bare.code f.bare.from f.bare.to y.0, y.1)))
       go none = unfold ended bare_at in refl
-      go (some y) = unfold ended bare_at in rw (bare_of_lem f.code f.from f.to y.0)
+      go (some y) = unfold ended bare_at in rw (bare_of_lem f.bare.code f.bare.from f.bare.to y.0)

@@ -33,7 +33,7 @@ pub const FORMS: u8 = 7;
 
 // A field: its form, and the kind, variable and four bytes of a value that the form has, of form 6 the lowest and the highest; parts that it lacks are 0.
 #[repr(C)]
-#[derive(Clone, Copy)]
+#[derive(Clone, Copy, Default)]
 pub struct Field {
     pub form: u8,
     pub kind: u8,
@@ -46,10 +46,7 @@ pub struct Field {
 pub fn binds(f: Field) -> bool
     ensures { provided result (binder_in f) ≡ binder_of (field_is f) }
 {
-    if f.form == 1 {
-        return true;
-    }
-    6 <= f.form
+    f.form == 1 || 6 <= f.form
 }
 
 // An operation: its code, spaces and first `count` fields; parts that it lacks are 0.
@@ -61,26 +58,6 @@ pub struct Operation {
     pub to: u16,
     pub count: usize,
     pub fields: [Field; MOST_FIELDS],
-}
-
-// A field of a form that has no highest value.
-fn plain(form: u8, kind: u8, variable: u8, bits: u32) -> Field
-    ensures { result ≡ record { form = form; kind = kind; variable = variable; bits = bits; highest = 0 } }
-{
-    Field {
-        form,
-        kind,
-        variable,
-        bits,
-        highest: 0,
-    }
-}
-
-// A field with no part.
-fn no_field() -> Field
-    ensures { T (has_form result) }
-{
-    plain(0, 0, 0, 0)
 }
 
 // The bytes of a field of a form, its form byte included, if there is such a form.
@@ -102,10 +79,7 @@ fn field_width(form: u8) -> Option<usize>
 fn field_end(b: &[u8], at: usize) -> Option<usize>
     ensures { given result ≡ field_end b.now at }
 {
-    if b.len() <= at {
-        return None;
-    }
-    let width = field_width(b[at])?;
+    let width = field_width(*b.get(at)?)?;
     if b.len() - at < width {
         return None;
     }
@@ -117,26 +91,43 @@ fn field_parts(b: &[u8], at: usize) -> Field
     requires { FieldStands b.now at }
     ensures { (field_is result ≡ field_parts b.now at) × (result.form ≡ get_or b.now at 0) }
 {
-    let form = b[at];
     let from = at + FORM_WIDTH;
     let first = b[from];
-    match form {
-        0 => plain(form, first, 0, word4(b, from + VALUE_BITS_AT)),
-        1 => plain(form, first, b[from + KIND_WIDTH], 0),
-        2 => plain(form, 0, first, 0),
-        3 | 4 => plain(
-            form,
-            b[from + VARIABLE_WIDTH],
-            first,
-            word4(b, from + SUM_BITS_AT),
-        ),
-        5 => plain(form, first, 0, 0),
+    let bare = Field {
+        form: b[at],
+        ..Field::default()
+    };
+    match bare.form {
+        0 => Field {
+            kind: first,
+            bits: word4(b, from + VALUE_BITS_AT),
+            ..bare
+        },
+        1 => Field {
+            kind: first,
+            variable: b[from + KIND_WIDTH],
+            ..bare
+        },
+        2 => Field {
+            variable: first,
+            ..bare
+        },
+        3 | 4 => Field {
+            kind: b[from + VARIABLE_WIDTH],
+            variable: first,
+            bits: word4(b, from + SUM_BITS_AT),
+            ..bare
+        },
+        5 => Field {
+            kind: first,
+            ..bare
+        },
         _ => Field {
-            form,
             kind: first,
             variable: b[from + RANGE_VARIABLE_AT],
             bits: word4(b, from + VALUE_BITS_AT),
             highest: word4(b, from + HIGHEST_AT),
+            ..bare
         },
     }
 }
@@ -154,13 +145,10 @@ fn read_fields(b: &[u8], at: usize, count: usize) -> Option<([Field; MOST_FIELDS
     requires { (count ≤ most_fields) × (at ≤ length b.now) }
     ensures { (fields_read count result ≡ read_at (several field count) b.now at) × IfSome result (λ r. T (all has_form r.0)) }
 {
-    let none = no_field();
-    let mut fields = [none; MOST_FIELDS];
+    let mut fields = [Field::default(); MOST_FIELDS];
     let mut end = at;
-    for i in 0..count {
-        let (f, next) = read_field(b, end)?;
-        fields[i] = f;
-        end = next;
+    for field in &mut fields[..count] {
+        (*field, end) = read_field(b, end)?;
     }
     Some((fields, end))
 }
@@ -199,14 +187,20 @@ fn second_space(b: &[u8], at: usize, code: u8) -> u16
     space_number(b, at + SPACE_WIDTH)
 }
 
-// What stands before the fields of an operation: its code, its spaces, their count, and the position of the first.
+// An operation without its fields: its code and spaces.
 #[derive(Clone, Copy)]
-struct Front {
-    pub at: usize,
+pub struct Bare {
     pub code: u8,
     pub from: u16,
     pub to: u16,
+}
+
+// What stands before the fields of an operation: the operation without them, their count, and the position of the first.
+#[derive(Clone, Copy)]
+struct Front {
+    pub bare: Bare,
     pub count: usize,
+    pub at: usize,
 }
 
 // Codes 1 to 7, after the code: space, or from and to; then the field count.
@@ -225,11 +219,13 @@ fn front_on_spaces(b: &[u8], at: usize, code: u8) -> Option<Front>
     let first = space_number(b, at);
     let second = second_space(b, at, code);
     Some(Front {
-        at: at + width + COUNT_WIDTH,
-        code,
-        from: first,
-        to: second,
+        bare: Bare {
+            code,
+            from: first,
+            to: second,
+        },
         count,
+        at: at + width + COUNT_WIDTH,
     })
 }
 
@@ -237,23 +233,20 @@ fn front_on_spaces(b: &[u8], at: usize, code: u8) -> Option<Front>
 fn read_front(b: &[u8], at: usize) -> Option<Front>
     ensures { Fronts result b.now (operation_at b.now at) }
 {
-    if b.len() <= at {
-        return None;
-    }
-    let code = b[at];
-    if code == TRUE {
-        return Some(Front {
-            at: at + CODE_WIDTH,
-            code,
-            from: 0,
-            to: 0,
+    let code = *b.get(at)?;
+    match code {
+        TRUE => Some(Front {
+            bare: Bare {
+                code,
+                from: 0,
+                to: 0,
+            },
             count: 0,
-        });
+            at: at + CODE_WIDTH,
+        }),
+        ..CODES => front_on_spaces(b, at + CODE_WIDTH, code),
+        _ => None,
     }
-    if code < CODES {
-        return front_on_spaces(b, at + CODE_WIDTH, code);
-    }
-    None
 }
 
 // The operation at a position, with its fields, and the position after it.
@@ -264,22 +257,14 @@ pub fn read_operation(b: &[u8], at: usize) -> Option<(Operation, usize)>
     let (fields, end) = read_fields(b, f.at, f.count)?;
     Some((
         Operation {
-            code: f.code,
-            from: f.from,
-            to: f.to,
+            code: f.bare.code,
+            from: f.bare.from,
+            to: f.bare.to,
             count: f.count,
             fields,
         },
         end,
     ))
-}
-
-// An operation without its fields: its code and spaces.
-#[derive(Clone, Copy)]
-pub struct Bare {
-    pub code: u8,
-    pub from: u16,
-    pub to: u16,
 }
 
 // The operation at a position, its end found from field to field, and no field read.
@@ -288,14 +273,7 @@ pub fn pass_operation(b: &[u8], at: usize) -> Option<(Bare, usize)>
 {
     let f = read_front(b, at)?;
     let end = fields_end(b, f.at, f.count)?;
-    Some((
-        Bare {
-            code: f.code,
-            from: f.from,
-            to: f.to,
-        },
-        end,
-    ))
+    Some((f.bare, end))
 }
 
 // The operation that stands at a position.

@@ -1,6 +1,5 @@
 -- `statements::pass_operation` meets its contract. Assumes nothing.
-use mathlib.Core.Path.{◌≡◌, refl}
-use Rattle.statements.specs.Front.{bare_at, bare_is, fields_passed}
+use Rattle.statements.specs.Front.{bare_at, fields_passed}
 use Rattle.std.proofs.Math.Option.{none, some}
 use Rattle.statements.proofs.pass_operation.Goals as goal
 

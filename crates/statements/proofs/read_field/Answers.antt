@@ -1,5 +1,5 @@
 -- `statements::read_field` meets its contract. Assumes nothing.
-use mathlib.Core.Path.{refl, sym, ◌∙◌}
+use mathlib.Core.Path.{sym, ◌∙◌}
 use Rattle.statements.specs.Fields.{field_read_lem, stands}
 use Rattle.statements.specs.FlatLaws.{form_known}
 use Rattle.statements.proofs.read_field.Goals as goal
