@@ -48,10 +48,8 @@ pub fn branch_end(b: &[u8], at: usize) -> Option<usize>
     ensures { given result ≡ end_at branch few_in b.now at }
 {
     let (_, end) = pass_operation(b, at)?;
-    if b.len() <= end {
-        return None;
-    }
-    operations_end(b, end + COUNT_WIDTH, size(b[end]))
+    let count = size(*b.get(end)?);
+    operations_end(b, end + COUNT_WIDTH, count)
 }
 
 // The index of the operation count of a legal body's last branch.
