@@ -11,8 +11,11 @@ loop-field-init c = fields_start _ _ _ _ c.requires.1 c.requires.0 (all_replicat
 pub returns-in_err-field : goal.returns-in_err-field
 returns-in_err-field c = let e = c.in_err-field.ensures in
     let w = c.loop-field.invariant in
-    rw c.from_residual.ensures (fields_stop c.args.b.now c.args.at c.args.count c.loop-field.field-items c.loop-field.end c.loop-field.field-index
-    (omega (arith, c.loop-field-test.true, c.loop-field.auto.field-items, w.room)) w e.0, tt)
+    rw c.from_residual.ensures (
+      fields_stop c.args.b.now c.args.at c.args.count c.loop-field.field-items c.loop-field.end c.loop-field.field-index
+          (omega (arith, c.loop-field-test.true, c.loop-field.auto.field-items, w.room)) w e.0,
+      tt,
+    )
 
 pub loop-field-preserved : goal.loop-field-preserved
 loop-field-preserved c = let e = c.in_ok-field.ensures in
