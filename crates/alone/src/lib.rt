@@ -18,7 +18,7 @@ fn lookup_ok(op: Operation) -> bool
 {
     (TRUE + 1..OUT).contains(&op.code)
         && head_ok(op)
-        && fields_ok(op, [Some(0); VARIABLES], [None; VARIABLES]).is_some()
+        && fields_ok(op, &[Some(0); VARIABLES], &[None; VARIABLES]).is_some()
 }
 
 // The operation that some bytes are, and nothing more, if it is a legal one of codes 1 to 4.

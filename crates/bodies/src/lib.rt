@@ -27,7 +27,7 @@ fn operations_ok(b: &[u8], at: usize, count: usize, kinds: Kinds) -> Option<usiz
     let mut now = kinds;
     let mut end = at;
     for _ in 0..count {
-        (now, end) = operation_step(b, end, now, false)?;
+        (now, end) = operation_step(b, end, &now, false)?;
     }
     Some(end)
 }
@@ -36,7 +36,7 @@ fn operations_ok(b: &[u8], at: usize, count: usize, kinds: Kinds) -> Option<usiz
 fn branch_ok(b: &[u8], at: usize) -> Option<usize>
     ensures { given result ≡ end_at branch legal_branch b.now at }
 {
-    let (kinds, end) = operation_step(b, at, [None; VARIABLES], true)?;
+    let (kinds, end) = operation_step(b, at, &[None; VARIABLES], true)?;
     let count = *b.get(end)?;
     if MOST_OPERATIONS < count {
         return None;

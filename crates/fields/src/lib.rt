@@ -23,8 +23,8 @@ const KINDS: u8 = 3;
 pub type Kinds = [Option<u8>; VARIABLES];
 
 // The kind of a variable, where it is bound.
-fn kind_at(kinds: Kinds, variable: u8) -> Option<u8>
-    ensures { given result ≡ kind_in (kinds_are kinds) variable }
+fn kind_at(kinds: &Kinds, variable: u8) -> Option<u8>
+    ensures { given result ≡ kind_in (kinds_are kinds.now) variable }
 {
     *kinds.get(size(variable))?
 }
@@ -37,8 +37,8 @@ fn sum_ok(bound: Option<u8>, kind: u8, bits: u32) -> bool
 }
 
 // What a field binds: a kind, and a variable that is not bound yet.
-fn binder_ok(kind: u8, variable: u8, now: Kinds) -> bool
-    ensures { result ≡ legal_binder (kinds_are now) (record { kind = kind; variable = variable }) }
+fn binder_ok(kind: u8, variable: u8, now: &Kinds) -> bool
+    ensures { result ≡ legal_binder (kinds_are now.now) (record { kind = kind; variable = variable }) }
 {
     kind < KINDS && size(variable) < VARIABLES && kind_at(now, variable).is_none()
 }
@@ -54,11 +54,10 @@ fn range_ok(kind: u8, lowest: u32, highest: u32) -> bool
 }
 
 // What a form asks of a field's other parts.
-fn parts_ok(f: Field, earlier: Kinds) -> bool
-    ensures { result ≡ legal_parts (kinds_are earlier) (field_is f) }
+fn parts_ok(f: Field, earlier: &Kinds) -> bool
+    ensures { result ≡ legal_parts (kinds_are earlier.now) (field_is f) }
 {
-    let form = f.form;
-    match form {
+    match f.form {
         0 => legal_value(f.kind, f.bits),
         1 => true,
         2 => kind_at(earlier, f.variable).is_some(),
@@ -69,8 +68,8 @@ fn parts_ok(f: Field, earlier: Kinds) -> bool
 }
 
 // A field after others: `earlier` has the kinds that earlier operations bound, `now` those bound so far.
-fn field_ok(f: Field, earlier: Kinds, now: Kinds) -> bool
-    ensures { result ≡ legal_field (kinds_are earlier) (kinds_are now) (field_is f) }
+fn field_ok(f: Field, earlier: &Kinds, now: &Kinds) -> bool
+    ensures { result ≡ legal_field (kinds_are earlier.now) (kinds_are now.now) (field_is f) }
 {
     parts_ok(f, earlier) && (!binds(f) || binder_ok(f.kind, f.variable, now))
 }
@@ -90,11 +89,11 @@ fn form_ok(code: u8, form: u8) -> bool
 }
 
 // The kinds with what a field binds.
-fn bind_kind(f: Field, now: Kinds) -> Kinds
-    requires { (b : Binder) → binder_of (field_is f) ≡ some b → T (legal_binder (kinds_are now) b) }
-    ensures { kinds_are result ≡ bind_kind (kinds_are now) (field_is f) }
+fn bind_kind(f: Field, now: &Kinds) -> Kinds
+    requires { (b : Binder) → binder_of (field_is f) ≡ some b → T (legal_binder (kinds_are now.now) b) }
+    ensures { kinds_are result ≡ bind_kind (kinds_are now.now) (field_is f) }
 {
-    let mut kinds = now;
+    let mut kinds = *now;
     if binds(f) {
         kinds[size(f.variable)] = Some(f.kind);
     }
@@ -102,8 +101,8 @@ fn bind_kind(f: Field, now: Kinds) -> Kinds
 }
 
 // One field of an operation of a code, whose form has to be allowed: the kinds after it, where it is legal after the fields before it.
-pub fn field_step(code: u8, f: Field, earlier: Kinds, now: Kinds) -> Option<Kinds>
-    ensures { bound_is result ≡ stepped code (kinds_are earlier) (kinds_are now) (field_is f) f.form }
+pub fn field_step(code: u8, f: Field, earlier: &Kinds, now: &Kinds) -> Option<Kinds>
+    ensures { bound_is result ≡ stepped code (kinds_are earlier.now) (kinds_are now.now) (field_is f) f.form }
 {
     if form_ok(code, f.form) && field_ok(f, earlier, now) {
         Some(bind_kind(f, now))

@@ -15,13 +15,13 @@ use fields::{Kinds, field_step};
 use statements::{OUT, Operation, TRUE, TWO_SPACES, read_operation};
 
 // The kinds after the fields of an operation, where they are legal: `earlier` has the kinds that earlier ones bound, and can be used; `start` those that may not be bound again.
-pub fn fields_ok(op: Operation, earlier: Kinds, start: Kinds) -> Option<Kinds>
+pub fn fields_ok(op: Operation, earlier: &Kinds, start: &Kinds) -> Option<Kinds>
     requires { op.count ≤ most_fields }
-    ensures { bound_is result ≡ judged (allowed_by op.code) (kinds_are earlier) (kinds_are start) (fields_are (take op.count op.fields)) }
+    ensures { bound_is result ≡ judged (allowed_by op.code) (kinds_are earlier.now) (kinds_are start.now) (fields_are (take op.count op.fields)) }
 {
-    let mut now = start;
+    let mut now = *start;
     for f in &op.fields[..op.count] {
-        now = field_step(op.code, *f, earlier, now)?;
+        now = field_step(op.code, *f, earlier, &now)?;
     }
     Some(now)
 }
@@ -36,12 +36,12 @@ pub fn head_ok(op: Operation) -> bool
 }
 
 // An operation after the kinds that earlier ones bound: the kinds after it, where it is legal.
-pub fn operation_ok(op: Operation, kinds: Kinds) -> Option<Kinds>
+pub fn operation_ok(op: Operation, kinds: &Kinds) -> Option<Kinds>
     requires { op.count ≤ most_fields }
-    ensures { bound_is result ≡ operation_step (kinds_are kinds) (operation_is op) }
+    ensures { bound_is result ≡ operation_step (kinds_are kinds.now) (operation_is op) }
 {
     if op.code == TRUE {
-        return Some(kinds);
+        return Some(*kinds);
     }
     if !head_ok(op) {
         return None;
@@ -61,8 +61,8 @@ fn place_ok(code: u8, guard: bool) -> bool
 }
 
 // The operation at a position, as a guard or in a body, after the kinds that earlier ones bound: where it is legal, the kinds after it and the position after it.
-pub fn operation_step(b: &[u8], at: usize, kinds: Kinds, guard: bool) -> Option<(Kinds, usize)>
-    ensures { step_is result ≡ step_at guard (kinds_are kinds) b.now at }
+pub fn operation_step(b: &[u8], at: usize, kinds: &Kinds, guard: bool) -> Option<(Kinds, usize)>
+    ensures { step_is result ≡ step_at guard (kinds_are kinds.now) b.now at }
 {
     let (op, end) = read_operation(b, at)?;
     if !place_ok(op.code, guard) {

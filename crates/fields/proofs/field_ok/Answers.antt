@@ -8,12 +8,12 @@ use Rattle.fields.proofs.field_ok.Goals as goal
 
 pub returns-then-not-binds : goal.returns-then-not-binds
 returns-then-not-binds c =
-    rw c.if-not-binds.true (field_free (kinds_are c.args.earlier) (kinds_are c.args.now) (field_is c.args.f) (binds_none c.args.f c.binds.result c.binds.ensures c.if-not-binds.true) (sym c.if-parts_ok.ensures))
+    rw c.if-not-binds.true (field_free (kinds_are c.args.earlier.now) (kinds_are c.args.now.now) (field_is c.args.f) (binds_none c.args.f c.binds.result c.binds.ensures c.if-not-binds.true) (sym c.if-parts_ok.ensures))
 
 pub returns-else-not-binds : goal.returns-else-not-binds
 returns-else-not-binds c =
     c.binder_ok.ensures
-    ∙ field_binds (kinds_are c.args.earlier) (kinds_are c.args.now) (field_is c.args.f) (binder_in c.args.f) (binds_some c.args.f c.binds.result c.binds.ensures c.if-not-binds.false) (sym c.if-parts_ok.ensures)
+    ∙ field_binds (kinds_are c.args.earlier.now) (kinds_are c.args.now.now) (field_is c.args.f) (binder_in c.args.f) (binds_some c.args.f c.binds.result c.binds.ensures c.if-not-binds.false) (sym c.if-parts_ok.ensures)
 
 pub returns-else-parts_ok : goal.returns-else-parts_ok
-returns-else-parts_ok c = rw c.if-parts_ok.false (field_refused (kinds_are c.args.earlier) (kinds_are c.args.now) (field_is c.args.f) (sym c.if-parts_ok.ensures))
+returns-else-parts_ok c = rw c.if-parts_ok.false (field_refused (kinds_are c.args.earlier.now) (kinds_are c.args.now.now) (field_is c.args.f) (sym c.if-parts_ok.ensures))

@@ -9,11 +9,11 @@ loop-f-init c = judging_start _ _ _ _
 pub returns-in_err-now : goal.returns-in_err-now
 returns-in_err-now c =
     rw c.from_residual.ensures
-    (judging_stop c.args.op.code (take c.args.op.count c.args.op.fields) c.args.earlier c.args.start c.loop-f.now c.loop-f.f-index _ c.loop-f-test.true c.loop-f.invariant c.in_err-now.ensures)
+    (judging_stop c.args.op.code (take c.args.op.count c.args.op.fields) c.args.earlier.now c.args.start.now c.loop-f.now c.loop-f.f-index _ c.loop-f-test.true c.loop-f.invariant c.in_err-now.ensures)
 
 pub loop-f-preserved : goal.loop-f-preserved
 loop-f-preserved c =
-    judging_turn c.args.op.code (take c.args.op.count c.args.op.fields) c.args.earlier c.args.start c.loop-f.now c.loop-f.f-index _ c.loop-f-test.true c.loop-f.invariant c.in_ok-now.now c.in_ok-now.ensures
+    judging_turn c.args.op.code (take c.args.op.count c.args.op.fields) c.args.earlier.now c.args.start.now c.loop-f.now c.loop-f.f-index _ c.loop-f-test.true c.loop-f.invariant c.in_ok-now.now c.in_ok-now.ensures
 
 pub returns : goal.returns
-returns c = judging_done c.args.op.code (take c.args.op.count c.args.op.fields) c.args.earlier c.args.start c.loop-f.now c.loop-f.f-index c.loop-f-test.false c.loop-f.invariant
+returns c = judging_done c.args.op.code (take c.args.op.count c.args.op.fields) c.args.earlier.now c.args.start.now c.loop-f.now c.loop-f.f-index c.loop-f-test.false c.loop-f.invariant
