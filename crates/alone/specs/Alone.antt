@@ -1,9 +1,10 @@
 -- An operation by itself, read off bytes that are nothing more. Assumes nothing.
-use Rattle.std.specs.Prelude.{◌≡◌, Bool, ◌&&◌, ◌⊎◌, length, take, drop, leb, eqb}
+use Rattle.std.specs.Prelude as rust
+use Rattle.std.specs.Prelude.{None, Some, IfSome, ◌≡◌, Bool, ◌&&◌, ◌⊎◌, length, take, drop, leb, eqb}
 use Rattle.std.proofs.Math.Path.{refl, sym}
 use Rattle.std.proofs.Common.{ap, ◌∙◌, arith, true≢false, inl, inr, length-drop, eq-eqb, ne_eqb}
 use Prim.Native.Nat.{ℕ, zero, suc, ◌-◌, ◌≤◌, ◌<◌}
-use Rattle.std.proofs.Math.Bool.{true, false, not, cond, and-false}
+use Rattle.std.proofs.Math.Bool.{true, false, cond}
 use Rattle.std.proofs.Math.Option.{Option, none, some, some-injective, none-ne-some}
 use mathlib.Core.List.{List, [], ◌∷◌}
 use Rattle.basis.specs.Choice.{maybe, is_some, provided}
@@ -14,11 +15,10 @@ use Rattle.model.specs.Statement.{always, lookup, deposit, transfer}
 use Rattle.model.specs.Reading.{whole_of, operation}
 use Rattle.model.specs.Legal.{no_kinds, is_space, field_count, legal_fields, legal_lookup, template_forms, fields_of}
 use Rattle.model.specs.Meeting.{every_kind, lookup_alone, lookup_in}
-use Rattle.statements.specs.At.{which, read_at, passed, found, ReadAt, read_at_some, read_at_none}
+use Rattle.statements.specs.At.{which, read_at, passed, read_at_some, read_at_none}
 use Rattle.statements.specs.Operations.{suffix_operation}
-use Rattle.statements.specs.Flat.{few_fields, operation_at, operation_of, operation_is, fields_are, Reads, read_is}
+use Rattle.statements.specs.Flat.{few_fields, operation_at, operation_of, operation_is, fields_are}
 use Rattle.statements.specs.declared.Operation.{Operation}
-use Rattle.statements.specs.declared.OperationRead.{OperationRead}
 
 -- an operation of codes 1 to 4 that is legal by itself
 unfoldable pub lookup_legal : model.Operation → Bool
@@ -28,15 +28,15 @@ lookup_legal o = is_some (lookup_alone o)
 abbrev pub sought_by : Operation → ℕ × List model.Field
 sought_by o = (o.from, fields_are (take o.count o.fields))
 
--- what was read; end 0: nothing
-unfoldable pub read_to : {A : Type 0} → (end : ℕ) → A → Option A
-read_to zero a = none
-read_to (suc end) a = some a
+-- space and fields of one such operation, as the code gives it
+abbrev pub alone_is : rust.Option Operation → Option (ℕ × List model.Field)
+alone_is None = none
+alone_is (Some o) = some (sought_by o)
 
--- what was read off some bytes: space and fields of one such operation; end 0: there is none
-pub record ReadAlone (r : OperationRead) (o : Option (ℕ × List model.Field)) : Type 0 where
-  pub is : read_to r.end (sought_by r.operation) ≡ o
-  pub count : r.operation.count ≤ most_fields
+-- what was read off some bytes: one such operation, or there is none
+pub record ReadAlone (r : rust.Option Operation) (o : Option (ℕ × List model.Field)) : Type 0 where
+  pub is : alone_is r ≡ o
+  pub count : IfSome r (λ o. o.count ≤ most_fields)
 
 -- ---- by the code of the operation
 
@@ -91,60 +91,44 @@ empty_at b end h = go (drop end b) (length-drop end b)
     go [] e = unfold is_empty in sym (eq-eqb end (length b) (omega arith))
     go (x ∷ l) e = unfold is_empty in sym (ne_eqb end (length b) (λ q. omega (arith, e)))
 
--- none where the end is 0 or not that of the bytes; else the operation decides
-unfoldable pub wholly : (end size : ℕ) → model.Operation → Option (ℕ × List model.Field)
-wholly end n o = cond (eqb end n && not (eqb end 0)) (lookup_alone o) none
-
--- what was found, by the end
-found_end : {A : Type 0} (end : ℕ) (a : A) → found end a ≡ none → end ≡ 0
-unfolding found
-found_end zero a e = refl
-found_end (suc end) a e = absurd (none-ne-some _ (sym e))
-
--- nothing was read
-wholly_none : (b : List ℕ) (r : OperationRead) → read_is r ≡ none → none ≡ wholly r.end (length b) (operation_is r.operation)
-unfolding wholly read_is
-wholly_none b r e = let z : r.end ≡ 0 = found_end r.end (operation_is r.operation) e in rw (z, and-false (eqb 0 (length b)))
-
 none_whole : (t : Bool) (o : model.Operation) → few_fields o ≡ false → maybe (provided t o) none lookup_alone ≡ none
 unfolding provided
 none_whole true o e = too_many o e
 none_whole false o e = refl
 
--- an operation was read, to an end
-wholly_read : (b : List ℕ) (r : OperationRead) (o : model.Operation) (end : ℕ) → end ≤ length b → read_is r ≡ some (o, end)
-    → maybe (provided (is_empty (drop end b)) o) none lookup_alone ≡ wholly r.end (length b) (operation_is r.operation)
-unfolding wholly read_is provided found
-wholly_read b r o end h e = rw (empty_at b end h) (go r.end e)
+-- no operation
+pub alone_none : (b : List ℕ) → none ≡ operation_at b 0 → none ≡ lookup_in b
+unfolding lookup_in whole_of operation_at passed provided
+alone_none b h = go (read_at operation b 0) refl h
   where
-    ends : (t : Bool) (p : model.Operation) → maybe {B = Option (ℕ × List model.Field)} (cond t (some p) none) none lookup_alone ≡ cond (t && true) (lookup_alone p) none
+    many : (few : Bool) (x : model.Operation × ℕ) → none ≡ provided few x → few ≡ false
+    many true x e = absurd (none-ne-some x e)
+    many false x e = refl
+
+    go : (o : Option (model.Operation × ℕ)) → read_at operation b 0 ≡ o → none ≡ maybe o none (λ x. provided (few_fields x.0) x) → none ≡ lookup_in b
+    go none q e = rw (read_at_none operation b 0 q)
+    go (some x) q e =
+        let a = read_at_some operation suffix_operation b 0 x.0 x.1 q in
+        rw a.reads (sym (none_whole (is_empty (drop x.1 b)) x.0 (many (few_fields x.0) x e)))
+
+-- an operation, which is all of the bytes if it ends where they do
+pub alone_read : (b : List ℕ) (o : model.Operation) (end : ℕ) → some (o, end) ≡ operation_at b 0 → cond (eqb end (length b)) (lookup_alone o) none ≡ lookup_in b
+unfolding lookup_in whole_of operation_at passed provided
+alone_read b o end h = go (read_at operation b 0) refl h
+  where
+    ends : (t : Bool) (p : model.Operation) → cond t (lookup_alone p) none ≡ maybe {B = Option (ℕ × List model.Field)} (cond t (some p) none) none lookup_alone
     ends true p = refl
     ends false p = refl
 
-    go : (n : ℕ) → found n (operation_is r.operation) ≡ some (o, end)
-        → maybe {B = Option (ℕ × List model.Field)} (cond (eqb end (length b)) (some o) none) none lookup_alone ≡ cond (eqb n (length b) && not (eqb n 0)) (lookup_alone (operation_is r.operation)) none
-    go zero q = absurd (none-ne-some _ q)
-    go (suc n) q =
-        let same = some-injective (operation_is r.operation, suc n) (o, end) q in
-        let x : operation_is r.operation ≡ o = ap (λ (z : model.Operation × ℕ). z.0) same in
-        let y : suc n ≡ end = ap (λ (z : model.Operation × ℕ). z.1) same in
-        rw (x, ← y, ne_eqb (suc n) 0 (λ z. omega arith)) (ends (eqb (suc n) (length b)) o)
+    same : (few : Bool) (x : model.Operation × ℕ) → some (o, end) ≡ provided few x → x ≡ (o, end)
+    same true x e = some-injective x (o, end) (sym e)
+    same false x e = absurd (none-ne-some (o, end) (sym e))
 
-pub alone_in : (b : List ℕ) (r : OperationRead) → Reads r (operation_at b 0) → lookup_in b ≡ wholly r.end (length b) (operation_is r.operation)
-unfolding lookup_in whole_of operation_at passed provided
-alone_in b r h = go (read_at operation b 0) refl h.is
-  where
-    read : (o : model.Operation) (end : ℕ) → ReadAt operation b 0 o end → (few : Bool) → few_fields o ≡ few → read_is r ≡ provided few (o, end)
-        → maybe (provided (is_empty (drop end b)) o) none lookup_alone ≡ wholly r.end (length b) (operation_is r.operation)
-    read o end a true q e = wholly_read b r o end a.within e
-    read o end a false q e = none_whole (is_empty (drop end b)) o q ∙ wholly_none b r e
-
-    go : (o : Option (model.Operation × ℕ)) → read_at operation b 0 ≡ o → read_is r ≡ maybe o none (λ x. provided (few_fields x.0) x)
-        → lookup_in b ≡ wholly r.end (length b) (operation_is r.operation)
-    go none q e = rw (read_at_none operation b 0 q) (wholly_none b r e)
+    go : (r : Option (model.Operation × ℕ)) → read_at operation b 0 ≡ r → some (o, end) ≡ maybe r none (λ x. provided (few_fields x.0) x) → cond (eqb end (length b)) (lookup_alone o) none ≡ lookup_in b
+    go none q e = absurd (none-ne-some (o, end) (sym e))
     go (some x) q e =
-        let a = read_at_some operation suffix_operation b 0 x.0 x.1 q in
-        rw a.reads (read x.0 x.1 a (few_fields x.0) refl e)
+        let a = read_at_some operation suffix_operation b 0 o end (q ∙ ap some (same (few_fields x.0) x e)) in
+        rw (a.reads, empty_at b end a.within) (ends (eqb end (length b)) o)
 
 -- ---- a legal one has the space and the fields that the code holds
 
@@ -173,27 +157,23 @@ sought_legal o t = go (by_code o.code o.from o.to (fields_are (take o.count o.fi
 
 -- ---- what the code answers
 
-module _ (b : List ℕ) (r : OperationRead) (h : Reads r (operation_at b 0)) where
+pub nothing_alone : (b : List ℕ) → none ≡ operation_at b 0 → ReadAlone None (lookup_in b)
+nothing_alone b h = record { is = alone_none b h; count = tt }
+
+module _ (b : List ℕ) (o : Operation) (end : ℕ) (h : some (operation_is o, end) ≡ operation_at b 0) where
   -- the bytes end elsewhere
-  pub alone_spare : (r.end ≡ length b → ⊥) → ReadAlone (record { end = 0; operation = r.operation }) (lookup_in b)
-  unfolding read_to wholly
-  alone_spare n = record { is = sym (alone_in b r h ∙ rw (ne_eqb r.end (length b) n)); count = h.count }
+  pub alone_spare : (end ≡ length b → ⊥) → ReadAlone None (lookup_in b)
+  alone_spare n = record { is = rw (ne_eqb end (length b) n) at (alone_read b (operation_is o) end h); count = tt }
 
   -- it is none of codes 1 to 4, or not legal
-  pub alone_illegal : false ≡ lookup_legal (operation_is r.operation) → ReadAlone (record { end = 0; operation = r.operation }) (lookup_in b)
-  unfolding read_to wholly lookup_legal is_some
-  alone_illegal f = record { is = sym (alone_in b r h ∙ go (lookup_alone (operation_is r.operation)) (eqb r.end (length b) && not (eqb r.end 0)) f); count = h.count }
+  pub alone_illegal : end ≡ length b → false ≡ lookup_legal (operation_is o) → ReadAlone None (lookup_in b)
+  unfolding lookup_legal is_some
+  alone_illegal e f = record { is = go (lookup_alone (operation_is o)) f (rw (eq-eqb end (length b) e) at (alone_read b (operation_is o) end h)); count = tt }
     where
-      go : (o : Option (ℕ × List model.Field)) (t : Bool) → false ≡ is_some o → cond t o none ≡ none
-      go none true e = refl
-      go none false e = refl
-      go (some x) t e = absurd (true≢false (sym e))
+      go : (p : Option (ℕ × List model.Field)) → false ≡ is_some p → p ≡ lookup_in b → none ≡ lookup_in b
+      go none f q = q
+      go (some x) f q = absurd (true≢false (sym f))
 
   -- it is one
-  pub alone_legal : r.end ≡ length b → true ≡ lookup_legal (operation_is r.operation) → ReadAlone r (lookup_in b)
-  unfolding wholly
-  alone_legal e t = record { is = sym (alone_in b r h ∙ rw (eq-eqb r.end (length b) e) (go r.end)); count = h.count }
-    where
-      go : (n : ℕ) → cond (true && not (eqb n 0)) (lookup_alone (operation_is r.operation)) none ≡ read_to n (sought_by r.operation)
-      go zero = unfold read_to in refl
-      go (suc n) = rw (ne_eqb (suc n) 0 (λ z. omega arith)) (unfold read_to in sought_legal r.operation t)
+  pub alone_legal : end ≡ length b → o.count ≤ most_fields → true ≡ lookup_legal (operation_is o) → ReadAlone (Some o) (lookup_in b)
+  alone_legal e l t = record { is = sym (sought_legal o t) ∙ rw (eq-eqb end (length b) e) at (alone_read b (operation_is o) end h); count = l }

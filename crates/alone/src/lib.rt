@@ -8,7 +8,7 @@ ghost use Rattle.statements.specs.Flat.{fields_are, operation_is};
 ghost use Rattle.alone.specs.Alone.{ReadAlone, lookup_legal};
 
 use legality::{fields_ok, head_ok};
-use statements::{OUT, Operation, OperationRead, TRUE, read_operation};
+use statements::{OUT, Operation, TRUE, read_operation};
 use words::VARIABLES;
 
 // Codes 1 to 4, space and fields legal by themselves: every variable counts as bound before, none as bound in the operation.
@@ -16,33 +16,21 @@ fn lookup_ok(op: Operation) -> bool
     requires { op.count ≤ most_fields }
     ensures { result ≡ lookup_legal (operation_is op) }
 {
-    if op.code == TRUE {
-        return false;
-    }
-    if OUT <= op.code {
-        return false;
-    }
-    if !head_ok(op) {
-        return false;
-    }
-    let r = fields_ok(op, [1; VARIABLES], [0; VARIABLES]);
-    r.ok
+    (TRUE + 1..OUT).contains(&op.code)
+        && head_ok(op)
+        && fields_ok(op, &[Some(0); VARIABLES], &[None; VARIABLES]).is_some()
 }
 
-// The operation that some bytes are, and nothing more; end 0: they are none of codes 1 to 4, or not a legal one.
-pub fn read_alone(b: &[u8]) -> OperationRead
+// The operation that some bytes are, and nothing more, if it is a legal one of codes 1 to 4.
+pub fn read_alone(b: &[u8]) -> Option<Operation>
     ensures { ReadAlone result (lookup_in b.now) }
 {
-    let mut r = read_operation(b, 0);
-    if r.end != b.len() {
-        r.end = 0;
-        return r;
+    let (op, end) = read_operation(b, 0)?;
+    if end == b.len() && lookup_ok(op) {
+        Some(op)
+    } else {
+        None
     }
-    let op = r.operation;
-    if !lookup_ok(op) {
-        r.end = 0;
-    }
-    r
 }
 
 // Some field is of form 2.
@@ -50,15 +38,5 @@ pub fn refers_to(op: Operation) -> bool
     requires { op.count ≤ most_fields }
     ensures { result ≡ refers (fields_are (take op.count op.fields)) }
 {
-    let fields = op.fields;
-    let count = op.count;
-    let mut i: usize = 0;
-    while i < count {
-        let f = fields[i];
-        if f.form == 2 {
-            return true;
-        }
-        i += 1;
-    }
-    false
+    op.fields[..op.count].iter().any(|f| f.form == 2)
 }

@@ -1,9 +1,13 @@
 -- A legal body: host, process, a branch count, and legal branches that take up the rest. Assumes nothing.
-use Rattle.std.specs.Prelude.{◌≡◌, refl, ℕ, suc, ◌-◌, ◌≤◌, ◌<◌, Bool, true, false, ◌&&◌, cond, List, [], ◌∷◌, length, drop, get_or, leb, ltb, eqb}
-use Rattle.std.proofs.Common.{sym, ap, ◌∙◌, arith, lt-ltb, le-leb, eq-eqb, ne_eqb}
+use Rattle.std.specs.Prelude as rust
+use Rattle.std.specs.Option.{option_eq}
+use Rattle.std.specs.Ordering.{is_le, nat_cmp}
+use Rattle.std.proofs.lemmas.Bool.Decides.{nat_tests}
+use Rattle.std.specs.Prelude.{None, Some, ◌≡◌, refl, ℕ, suc, ◌-◌, ◌≤◌, ◌<◌, Bool, true, false, ◌&&◌, cond, List, [], ◌∷◌, length, drop, get_or, leb, ltb, eqb}
+use Rattle.std.proofs.Common.{sym, leb-true, leb-false, true≢false, ap, ◌∙◌, arith, lt-ltb, le-leb, eq-eqb, ne_eqb}
 use Rattle.std.proofs.Math.Option.{Option, none, some}
 use Rattle.std.proofs.lemmas.Bool.{lt-leb}
-use Rattle.basis.specs.Choice.{maybe, is_some, provided}
+use Rattle.basis.specs.Choice.{maybe, is_some, given, provided}
 use Rattle.basis.specs.Lists.{all, is_empty}
 use Rattle.basis.specs.Numbers.{number_at}
 use Rattle.basis.specs.NumberLaws.{bytes_of_lem, number_at_lt}
@@ -14,8 +18,7 @@ use Rattle.model.specs.Statement.{Branch, Statement}
 use Rattle.model.specs.Legal.{legal_branch, legal_statement, parse, legal_body}
 use Rattle.model.specs.Reading.{several, whole_of, branch}
 use Rattle.model.proofs.ReadBack.{several_length}
-use Rattle.statements.specs.Ends.{end_at, end_of, end_of_lem, position_some}
-use Rattle.statements.specs.At.{position}
+use Rattle.statements.specs.Ends.{end_at, end_of, end_of_lem}
 use Rattle.walk.specs.BodyParts.{statement_of, statement_one, statement_short}
 
 -- a position is the end
@@ -23,28 +26,52 @@ unfoldable pub ends_at : Option ℕ → ℕ → Bool
 ends_at none n = false
 ends_at (some end) n = eqb end n
 
--- the position that was found, or that there is none
-pub ends_none : (o : Option ℕ) (n : ℕ) → position 0 ≡ o → false ≡ ends_at o n
-unfolding ends_at position
-ends_none o n e = ap (λ (x : Option ℕ). ends_at x n) e
-
-pub ends_some : (o : Option ℕ) (end n : ℕ) → 0 < end → position end ≡ o → eqb end n ≡ ends_at o n
+-- the position that the code found is the end
+pub end_told : (r : rust.Option ℕ) (o : Option ℕ) (n : ℕ) → given r ≡ o → option_eq eqb r (Some n) ≡ ends_at o n
 unfolding ends_at
-ends_some o end n h e = ap (λ (x : Option ℕ). ends_at x n) (sym (position_some end h) ∙ e)
+end_told None o n e = ap (λ (x : Option ℕ). ends_at x n) e
+end_told (Some end) o n e = ap (λ (x : Option ℕ). ends_at x n) e
 
 -- more than 250 bytes
-pub body_long : (b : List ℕ) → most_body < length b → false ≡ legal_body b
+body_long : (b : List ℕ) → most_body < length b → false ≡ legal_body b
 unfolding legal_body parse is_some
 body_long b h = rw (lt-leb (length b) most_body h)
 
 -- fewer than host, process and branch count take
-pub body_short : (b : List ℕ) → length b < branches_at → false ≡ legal_body b
+body_short : (b : List ℕ) → length b < branches_at → false ≡ legal_body b
 unfolding legal_body parse is_some whole_of
 body_short b h = rw (statement_short b h) (go (leb (length b) most_body))
   where
     go : (t : Bool) → false ≡ is_some {A = Statement} (cond t none none)
     go true = refl
     go false = refl
+
+nat_le : (a b : ℕ) → is_le (nat_cmp a b) ≡ leb a b
+nat_le a b = grind (arith, nat_tests)
+
+-- what the code tells of a number in a range
+pub range_told : (a n b : ℕ) → (is_le (nat_cmp a n) && is_le (nat_cmp n b)) ≡ (leb a n && leb n b)
+range_told a n b = rw (nat_le a n, nat_le n b)
+
+-- a body is as long as host, process and branch count take, and has at most 250 bytes
+abbrev pub sized : ℕ → Bool
+sized n = leb branches_at n && leb n most_body
+
+pub sized_parts : (n : ℕ) → true ≡ sized n → (n ≤ most_body) × (branches_at ≤ n)
+sized_parts n e = go (leb branches_at n) (leb n most_body) refl refl e
+  where
+    go : (p q : Bool) → leb branches_at n ≡ p → leb n most_body ≡ q → true ≡ (p && q) → (n ≤ most_body) × (branches_at ≤ n)
+    go true true l h e = (leb-true n most_body h, leb-true branches_at n l)
+    go true false l h e = absurd (true≢false e)
+    go false q l h e = absurd (true≢false e)
+
+pub body_unsized : (b : List ℕ) → false ≡ sized (length b) → false ≡ legal_body b
+body_unsized b e = go (leb branches_at (length b)) (leb (length b) most_body) refl refl e
+  where
+    go : (p q : Bool) → leb branches_at (length b) ≡ p → leb (length b) most_body ≡ q → false ≡ (p && q) → false ≡ legal_body b
+    go false q l h e = body_short b (leb-false branches_at (length b) l)
+    go true false l h e = body_long b (leb-false (length b) most_body h)
+    go true true l h e = absurd (true≢false (sym e))
 
 -- the head of a body: host, branch count
 unfoldable pub head_ok : (host count : ℕ) → Bool

@@ -1,7 +1,7 @@
 -- A legal branch: its guard, then its body after the kinds that the guard bound. Assumes nothing.
 use Rattle.std.specs.Prelude.{◌≡◌, ℕ, Bool, true, ◌&&◌, List, [], length, leb}
 use Rattle.std.proofs.Math.Path.{refl, sym}
-use Rattle.std.proofs.Common.{◌∙◌, arith}
+use Rattle.std.proofs.Common.{◌∙◌}
 use Rattle.std.proofs.Math.Bool.{false}
 use Rattle.std.proofs.Math.Option.{Option, none, some}
 use Rattle.basis.specs.Choice.{maybe}
@@ -10,13 +10,9 @@ use Rattle.basis.specs.Sizes.{most_operations}
 use Rattle.model.specs.Statement.{Operation, operations}
 use Rattle.model.specs.Legal.{Kinds, no_kinds, bind_kinds, fields_of, legal_operation, legal_operations, is_guard, is_body_operation, legal_branch}
 use Rattle.model.specs.Reading.{operation, branch}
-use Rattle.statements.specs.At.{found_some, found_none, position}
-use Rattle.statements.specs.Ends.{end_at, Passes, Stops, position_none}
-use Rattle.fields.specs.Kinds.{kinds_are}
+use Rattle.statements.specs.Ends.{end_at, Passes, Stops}
 use Rattle.walk.specs.Branches.{counted_end, branch_ends}
-use Rattle.legality.specs.declared.Step.{Step}
 use Rattle.legality.specs.Steps.{place_ok, step_at, body_legal, step_later, body_turn, step_within}
-use Rattle.legality.specs.Places.{step_is}
 
 -- at most eight operations
 abbrev pub few_operations : ℕ → Bool
@@ -47,29 +43,23 @@ branch_end b at = branch_ends legal_branch (λ g. is_guard g && legal_operation 
 -- ---- in code
 
 -- the guard of a branch
-module _ (b : List ℕ) (at : ℕ) (r : Step) (h : step_is r ≡ step_at true no_kinds b at) where
-  pub no_guard : r.end ≡ 0 → position 0 ≡ end_at branch legal_branch b at
-  unfolding step_is
-  no_guard e = position_none 0 refl ∙ sym (branch_end b at ∙ rw (sym h ∙ found_none r.end (kinds_are r.kinds) e))
+module _ (b : List ℕ) (at : ℕ) where
+  pub no_guard : none ≡ step_at true no_kinds b at → none ≡ end_at branch legal_branch b at
+  no_guard h = sym (branch_end b at ∙ rw (← h))
 
-  pub guard_legal : (r.end ≡ 0 → ⊥) → counted_end few_operations (body_legal (kinds_are r.kinds)) b r.end ≡ end_at branch legal_branch b at
-  unfolding step_is
-  guard_legal n = sym (branch_end b at ∙ rw (sym h ∙ found_some r.end (kinds_are r.kinds) (omega (arith, n))))
+  pub guard_legal : (ks : Kinds) (end : ℕ) → some (ks, end) ≡ step_at true no_kinds b at → body_end b ks end ≡ end_at branch legal_branch b at
+  guard_legal ks end h = sym (branch_end b at ∙ rw (← h))
 
 -- the operations of its body
 pub body_none : (ks : Kinds) → body_legal ks [] ≡ true
 unfolding body_legal all legal_operations
 body_none ks = refl
 
-module _ (ks : Kinds) (b : List ℕ) (at : ℕ) (r : Step) (e : step_is r ≡ step_at false ks b at) where
+module _ (ks : Kinds) (b : List ℕ) (at : ℕ) where
   -- one more is legal
-  pub step_passes : (r.end ≡ 0 → ⊥) → Passes operation (body_legal ks) (body_legal (kinds_are r.kinds)) b at r.end
-  unfolding step_is
-  step_passes n =
-      let s : step_at false ks b at ≡ some (kinds_are r.kinds, r.end) = sym e ∙ found_some r.end (kinds_are r.kinds) (omega (arith, n)) in
-      record { past = omega (arith, n); within = step_within false ks (kinds_are r.kinds) b at r.end s; rest = λ m. body_turn ks m b at ∙ rw s }
+  pub step_passes : (after : Kinds) (end : ℕ) → some (after, end) ≡ step_at false ks b at → Passes operation (body_legal ks) (body_legal after) b at end
+  step_passes after end h = record { within = step_within false ks after b at end (sym h); rest = λ m. body_turn ks m b at ∙ rw (← h) }
 
   -- it is not legal
-  pub step_stops : r.end ≡ 0 → Stops operation (body_legal ks) b at
-  unfolding step_is
-  step_stops n m = let s : step_at false ks b at ≡ none = sym e ∙ found_none r.end (kinds_are r.kinds) n in body_turn ks m b at ∙ rw s
+  pub step_stops : none ≡ step_at false ks b at → Stops operation (body_legal ks) b at
+  step_stops h m = body_turn ks m b at ∙ rw (← h)

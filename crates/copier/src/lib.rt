@@ -3,12 +3,13 @@
 
 ghost use Rattle.std.specs.Prelude.{◌≡◌, true, List, ◌++◌, ℕ, ◌≤◌, length, drop};
 ghost use Rattle.model.specs.Legal.{legal_body};
+ghost use Rattle.walk.specs.Walk.{Operations};
 ghost use Rattle.rewriter.specs.Copying.{Underway};
 ghost use Rattle.copier.specs.Rewriting.{copied, rewritten};
 
 use additions::{begin_at, branch_at, operation_at};
 use answers::refusal;
-use statements::read_operation;
+use statements::standing_operation;
 use words::{BRANCH_COUNT_AT, BRANCHES_AT, COUNT_WIDTH, PROCESS_AT, size, word2};
 
 // Where the reader stands in the body, and how many bytes the writer has filled.
@@ -18,20 +19,17 @@ struct Place {
     fill: usize,
 }
 
-// So many operations from a position of the body on, each read and handed in.
+// So many operations that stand at a position of the body, each read and handed in.
 fn copy_operations(body: &[u8], at: usize, count: usize, out: &mut [u8], fill: usize) -> Place
+    requires { Operations body.now at count }
     ensures { (buffer : List ℕ) (later : ℕ) → Underway body.now buffer at count later fill out.old → Underway body.now buffer result.at 0 later result.fill out.new }
 {
     let mut next = at;
     let mut filled = fill;
-    let mut left = count;
-    while 0 < left {
-        let r = read_operation(body, next);
-        let op = r.operation;
-        let a = operation_at(out, filled, op);
-        filled = a.fill;
-        next = r.end;
-        left -= 1;
+    for _ in 0..count {
+        let (op, end) = standing_operation(body, next);
+        filled = operation_at(out, filled, op).fill;
+        next = end;
     }
     Place {
         at: next,
@@ -40,22 +38,18 @@ fn copy_operations(body: &[u8], at: usize, count: usize, out: &mut [u8], fill: u
 }
 
 // So many branches from a position of the body on, to its end: of each the guard, then the operations.
-fn copy_branches(body: &[u8], at: usize, count: usize, out: &mut [u8], fill: usize) -> usize
-    requires { Underway body.now out.old at 0 count fill out.old }
+fn copy_branches(body: &[u8], at: usize, branches: usize, out: &mut [u8], fill: usize) -> usize
+    requires { Underway body.now out.old at 0 branches fill out.old }
     ensures { (result ≡ length body.now) × (out.new ≡ body.now ++ drop (length body.now) out.old) }
 {
     let mut next = at;
     let mut filled = fill;
-    let mut branches = count;
-    while 0 < branches {
-        let r = read_operation(body, next);
-        let op = r.operation;
+    for _ in 0..branches {
+        let (op, end) = standing_operation(body, next);
         let a = branch_at(out, filled, op);
-        let end = r.end;
         let c = copy_operations(body, end + COUNT_WIDTH, size(body[end]), out, a.fill);
         next = c.at;
         filled = c.fill;
-        branches -= 1;
     }
     filled
 }
@@ -65,11 +59,9 @@ fn copy_body(body: &[u8], out: &mut [u8]) -> usize
     requires { (legal_body body.now ≡ true) × (length body.now ≤ length out.old) }
     ensures { (result ≡ length body.now) × (out.new ≡ body.now ++ drop (length body.now) out.old) }
 {
-    let r = read_operation(body, BRANCHES_AT);
-    let op = r.operation;
+    let (op, end) = standing_operation(body, BRANCHES_AT);
     let process = word2(body, PROCESS_AT);
     let a = begin_at(out, body[words::HOST_AT], process, op);
-    let end = r.end;
     let c = copy_operations(body, end + COUNT_WIDTH, size(body[end]), out, a.fill);
     copy_branches(body, c.at, size(body[BRANCH_COUNT_AT]) - 1, out, c.fill)
 }

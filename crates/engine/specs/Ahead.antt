@@ -1,8 +1,9 @@
 -- A branch of a body, operation by operation: what stands from a position on, and what is left to perform. Assumes nothing.
-use Rattle.std.specs.Prelude.{◌≡◌, T}
+use Rattle.std.specs.Prelude.{◌≡◌, T, Some}
 use Rattle.std.proofs.Math.Path.{refl, sym, ap, subst}
 use Rattle.std.proofs.Common.{◌∙◌}
-use Prim.Native.Nat.{ℕ, zero, suc}
+use Prim.Native.Nat.{ℕ, zero, suc, ◌-◌}
+use native.Mathlib.Omega.{arith}
 use mathlib.Core.List.{List, [], ◌∷◌}
 use Rattle.basis.specs.Logic.{and_l, and_r}
 use Rattle.basis.specs.ListLaws.{Each}
@@ -12,7 +13,7 @@ use Rattle.model.specs.Legal.{Kinds, bind_kinds, fields_of, legal_operation, leg
 use Rattle.model.specs.Matching.{Tuple, Bindings}
 use Rattle.model.specs.Execution.{Result, done, failed, perform, and_then, perform_all}
 use Rattle.model.proofs.BoundKinds.{Agree}
-use Rattle.statements.specs.declared.OperationRead.{OperationRead}
+use Rattle.statements.specs.declared.Operation.{Operation}
 use Rattle.statements.specs.Flat.{operation_is, Reads, operation_at}
 use Rattle.tuples.specs.Section as Section
 use Rattle.tuples.specs.Section.{tuples_of}
@@ -82,6 +83,9 @@ pub record Running (b : List ℕ) (x : Result) (p : List ℕ) (n : ℕ) (w : Var
   pub ahead : Ahead b at count (bindings_of w)
   pub same : x ≡ perform_all (operations_at b at count) (bindings_of w) (tuples_of p n)
 
+pub running_start : (b p : List ℕ) (n : ℕ) (w : Vars) (at count : ℕ) → Section.Section p n → Ahead b at count (bindings_of w) → Running b (perform_all (operations_at b at count) (bindings_of w) (tuples_of p n)) p n w at (count - 0)
+running_start b p n w at count s a = let e : count - 0 ≡ count = omega arith in rw e (record { section = s; ahead = a; same = refl })
+
 module _ (b : List ℕ) (x : Result) (p : List ℕ) (n : ℕ) (w : Vars) (at count : ℕ) (h : Running b x p n w at count) where
   -- none is left
   pub running_end : count ≡ 0 → Leaves x 0 n w p
@@ -90,30 +94,34 @@ module _ (b : List ℕ) (x : Result) (p : List ℕ) (n : ℕ) (w : Vars) (at cou
       let none : operations_at b at count ≡ [] = ap (operations_at b at) z ∙ no_items operation b at in
       subst (λ (y : Result). Leaves y 0 n w p) (sym (h.same ∙ ap (λ (os : List Model.Operation). perform_all os (bindings_of w) (tuples_of p n)) none)) (leaves_done (bindings_of w) (tuples_of p n) n w p refl h.section)
 
-  module _ (m : ℕ) (s : count ≡ suc m) (r : OperationRead) (e : Reads r (operation_at b at)) where
-    abbrev o : Model.Operation
-    o = operation_is r.operation
+  module _ (m : ℕ) (s : count ≡ suc m) where
+    pub running_stands : Operations b at (suc m)
+    running_stands = subst (Operations b at) s h.ahead.stands
 
-    next : Next b at m o r.end
-    next = read_next b at m (subst (Operations b at) s h.ahead.stands) r e
+    module _ (r : Operation × ℕ) (e : Reads (Some r) (operation_at b at)) where
+      abbrev o : Model.Operation
+      o = operation_is r.0
 
-    items : operations_at b at count ≡ o ∷ operations_at b r.end m
-    items = ap (operations_at b at) s ∙ next.items
+      next : Next b at m o r.1
+      next = read_next b at m running_stands r e
 
-    is_due : Due b o r.end m (bindings_of w)
-    is_due = due b o r.end m (bindings_of w) h.ahead.kinds next.later (subst (λ (os : List Model.Operation). T (legal_operations h.ahead.kinds os)) items h.ahead.legal) h.ahead.agree
+      items : operations_at b at count ≡ o ∷ operations_at b r.1 m
+      items = ap (operations_at b at) s ∙ next.items
 
-    same_as : x ≡ perform_all (o ∷ operations_at b r.end m) (bindings_of w) (tuples_of p n)
-    same_as = h.same ∙ ap (λ (os : List Model.Operation). perform_all os (bindings_of w) (tuples_of p n)) items
+      is_due : Due b o r.1 m (bindings_of w)
+      is_due = due b o r.1 m (bindings_of w) h.ahead.kinds next.later (subst (λ (os : List Model.Operation). T (legal_operations h.ahead.kinds os)) items h.ahead.legal) h.ahead.agree
 
-    pub running_can : CanPerform (bindings_of w) (operation_is r.operation)
-    running_can = can_due b o r.end m (bindings_of w) is_due
+      same_as : x ≡ perform_all (o ∷ operations_at b r.1 m) (bindings_of w) (tuples_of p n)
+      same_as = h.same ∙ ap (λ (os : List Model.Operation). perform_all os (bindings_of w) (tuples_of p n)) items
 
-    module _ (outcome n' : ℕ) (w' : Vars) (q : List ℕ) (d : Leaves (perform (operation_is r.operation) (bindings_of w) (tuples_of p n)) outcome n' w' q) where
-      pub running_fails : (outcome ≡ 0 → ⊥) → Leaves x outcome n' w' q
-      running_fails z = subst (λ (y : Result). Leaves y outcome n' w' q) (sym same_as) (due_failed b o r.end m (bindings_of w) is_due (tuples_of p n) n' w' q outcome d z)
+      pub running_can : CanPerform (bindings_of w) (operation_is r.0)
+      running_can = can_due b o r.1 m (bindings_of w) is_due
 
-      pub running_turn : outcome ≡ 0 → Running b x q n' w' r.end m
-      running_turn z =
-          let y = due_done b o r.end m (bindings_of w) is_due (tuples_of p n) n' w' q outcome d z h.section.lawful in
-          record { section = d.section; ahead = y.0; same = same_as ∙ y.1 }
+      module _ (outcome n' : ℕ) (w' : Vars) (q : List ℕ) (d : Leaves (perform (operation_is r.0) (bindings_of w) (tuples_of p n)) outcome n' w' q) where
+        pub running_fails : (outcome ≡ 0 → ⊥) → Leaves x outcome n' w' q
+        running_fails z = subst (λ (y : Result). Leaves y outcome n' w' q) (sym same_as) (due_failed b o r.1 m (bindings_of w) is_due (tuples_of p n) n' w' q outcome d z)
+
+        pub running_turn : outcome ≡ 0 → Running b x q n' w' r.1 m
+        running_turn z =
+            let y = due_done b o r.1 m (bindings_of w) is_due (tuples_of p n) n' w' q outcome d z h.section.lawful in
+            record { section = d.section; ahead = y.0; same = same_as ∙ y.1 }

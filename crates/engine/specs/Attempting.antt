@@ -1,10 +1,11 @@
 -- Rule 5: a branch as a whole, guard and body, and a statement with it. Assumes nothing.
+use Rattle.std.specs.Prelude.{Some}
 use Rattle.std.specs.Prelude.{◌≡◌, refl, List, [], ◌∷◌, length, drop, get_or, T}
-use Rattle.std.proofs.Common.{sym, ◌∙◌, add-one}
+use Rattle.std.proofs.Common.{sym, ◌∙◌, add-one, arith}
 use Rattle.std.proofs.Math.Path.{ap, subst}
 use Prim.Native.Nat.{ℕ, zero, suc, ◌+◌, ◌*◌, ◌≤◌, ◌<◌}
 use Rattle.std.proofs.Math.Option.{Option, none, some, map, some-injective}
-use Rattle.basis.specs.Choice.{maybe}
+use Rattle.basis.specs.Choice.{maybe, is_some}
 use Rattle.basis.specs.Logic.{and_r, both}
 use Rattle.basis.specs.Lists.{all, Found}
 use Rattle.basis.specs.Sizes.{count_width, most_fields, most_body, tuple_size}
@@ -15,7 +16,7 @@ use Rattle.model.specs.Legal.{no_kinds, legal_operations, legal_branch}
 use Rattle.model.specs.Matching.{Tuple, Bindings, unbound}
 use Rattle.model.specs.Execution.{Result, perform_all, chosen, Executed, execute, attempt, tuples_after}
 use Rattle.model.proofs.BoundKinds.{agree_unbound}
-use Rattle.statements.specs.declared.OperationRead.{OperationRead}
+use Rattle.statements.specs.declared.Operation.{Operation}
 use Rattle.statements.specs.Flat.{operation_is, Reads, operation_at}
 use Rattle.words.specs.Over.{over}
 use Rattle.sections.specs.FirstRows.{over_section}
@@ -23,43 +24,50 @@ use Rattle.tuples.specs.Section.{tuple_shape, tuples_of, Holds}
 use Rattle.bindings.specs.declared.Vars.{Vars}
 use Rattle.bindings.specs.Variables.{bindings_of}
 use Rattle.walk.specs.Standing.{stand_as}
-use Rattle.walk.specs.Walk.{Branches, operations_at, NextBranch, read_branch}
-use Rattle.walk.specs.Choosing.{Chosen, Finds, Chooses, nothing, chosen_at}
+use Rattle.walk.specs.Walk.{Branches, operations_at, NextBranch, branch_there, read_branch}
+use Rattle.walk.specs.Choosing.{Chosen, Finds, Picks}
+use Rattle.walk.specs.declared.Choice.{Choice}
 use Rattle.operations.specs.Performing.{result_is, Leaves}
 use Rattle.engine.specs.Ahead.{Due, due}
 
 -- ---- a branch
 
 -- the body of the branch of which this guard was read, and the whole branch
-abbrev pub body_of : List ℕ → OperationRead → List Model.Operation
-body_of b r = operations_at b (r.end + count_width) (get_or b r.end 0)
+abbrev pub body_of : List ℕ → Operation × ℕ → List Model.Operation
+body_of b r = operations_at b (r.1 + count_width) (get_or b r.1 0)
 
-abbrev pub branch_of : List ℕ → OperationRead → List Model.Operation
-branch_of b r = operation_is r.operation ∷ body_of b r
+abbrev pub branch_of : List ℕ → Operation × ℕ → List Model.Operation
+branch_of b r = operation_is r.0 ∷ body_of b r
 
 -- it is legal, with no variable bound before its guard
-pub record GuardRead (b : List ℕ) (r : OperationRead) : Type 0 where
-  pub few : r.operation.count ≤ most_fields
-  pub long : r.end < length b
+pub record GuardRead (b : List ℕ) (r : Operation × ℕ) : Type 0 where
+  pub few : r.0.count ≤ most_fields
+  pub long : r.1 < length b
   pub short : length b ≤ most_body
-  pub due : Due b (operation_is r.operation) (r.end + count_width) (get_or b r.end 0) unbound
+  pub due : Due b (operation_is r.0) (r.1 + count_width) (get_or b r.1 0) unbound
 
 branch_legal : (br : Branch) → T (legal_branch br) → T (legal_operations no_kinds (operations br))
 unfolding legal_branch
 branch_legal br t = search (and_r, t) depth 4
 
--- the guard of a branch that stands at a position
-guard_read : (b : List ℕ) (at : ℕ) (br : Branch) → Chosen b at br → length b ≤ most_body → (r : OperationRead) → Reads r (operation_at b at) → GuardRead b r × (operations br ≡ branch_of b r)
-unfolding several ◌>>=◌ give all operations
-guard_read b at br c short r e =
+-- the branch stands there alone
+alone : (b : List ℕ) (at : ℕ) (br : Branch) → Chosen b at br → Branches b at 1
+unfolding several ◌>>=◌ give all
+alone b at br c =
     let reads : several branch 1 (drop at b) ≡ some (br ∷ [], c.rest) = rw c.reads in
-    let h : Branches b at 1 = (stand_as branch legal_branch b at 1 (br ∷ []) c.rest reads (both (legal_branch br) _ c.legal tt)).stands in
+    (stand_as branch legal_branch b at 1 (br ∷ []) c.rest reads (both (legal_branch br) _ c.legal tt)).stands
+
+-- the guard of a branch that stands at a position
+guard_read : (b : List ℕ) (at : ℕ) (br : Branch) → Chosen b at br → length b ≤ most_body → (r : Operation × ℕ) → Reads (Some r) (operation_at b at) → GuardRead b r × (operations br ≡ branch_of b r)
+unfolding operations
+guard_read b at br c short r e =
+    let h : Branches b at 1 = alone b at br c in
     let g = read_branch b at 0 h r e in
-    let n : NextBranch b at 0 r.end = g.0 in
+    let n : NextBranch b at 0 r.1 = g.0 in
     let same : n.first ≡ br = ap (λ (x : Branch × List ℕ). x.0) (some-injective (n.first, drop n.stop b) (br, c.rest) (sym n.reads ∙ c.reads)) in
     let is : operations n.first ≡ branch_of b r = λ i. sym g.1 i ∷ sym n.is_body i in
     let legal : T (legal_operations no_kinds (branch_of b r)) = subst (λ (os : List Model.Operation). T (legal_operations no_kinds os)) is (branch_legal n.first n.legal) in (
-      record { few = e.count; long = n.long; short = short; due = due b (operation_is r.operation) (r.end + count_width) (get_or b r.end 0) unbound no_kinds n.body legal agree_unbound },
+      record { few = e.parts.count; long = n.long; short = short; due = due b (operation_is r.0) (r.1 + count_width) (get_or b r.1 0) unbound no_kinds n.body legal agree_unbound },
       ap operations (sym same) ∙ is,
     )
 
@@ -105,28 +113,33 @@ pub record Attempted (o : Option Executed) (ts : List Tuple) (number outcome n :
   pub holds : Holds p n (maybe o ts (λ x. tuples_after ts x.result))
 
 -- the branch that was chosen, of which the guard was read
-pub record ChosenRead (b : List ℕ) (ts : List Tuple) (o : Option (Found Branch)) (number tuple : ℕ) (r : OperationRead) : Type 0 where
+pub record ChosenRead (b : List ℕ) (ts : List Tuple) (o : Option (Found Branch)) (number tuple : ℕ) (r : Operation × ℕ) : Type 0 where
   pub guard : GuardRead b r
-  pub finds : Finds ts (operation_is r.operation) tuple
+  pub finds : Finds ts (operation_is r.0) tuple
   pub is : map (execute ts) o ≡ some (record { branch = number; result = perform_all (branch_of b r) unbound ts })
+  pub some : number ≡ 0 → ⊥
 
-pub chosen_read : (b : List ℕ) (ts : List Tuple) (o : Option (Found Branch)) (number at tuple : ℕ) → Chooses b ts o number at tuple → (number ≡ 0 → ⊥) → length b ≤ most_body → (r : OperationRead) → Reads r (operation_at b at) → ChosenRead b ts o number tuple r
-unfolding execute operations
-chosen_read b ts o number at tuple (nothing e) z short r q = absurd (z refl)
-chosen_read b ts o number at tuple (chosen_at {i} {br} e c f) z short r q =
-    let g = guard_read b at br c short r q in
-    let guard : br.guard ≡ operation_is r.operation = let h = g.1 in cc in
-    record {
-      guard = g.0;
-      finds = subst (λ (o : Model.Operation). Finds ts o tuple) guard f;
-      is = ap (map (execute ts)) e ∙ (λ k. some (record { branch = sym (add-one i) k; result = perform_all (g.1 k) unbound ts }));
-    }
+module _ (b : List ℕ) (ts : List Tuple) (o : Option (Found Branch)) (c : Choice) (h : Picks b ts o c) where
+  pub chosen_stands : T (is_some (operation_at b c.at))
+  chosen_stands = branch_there b c.at 0 (alone b c.at h.item h.stands)
+
+  pub chosen_read : length b ≤ most_body → (r : Operation × ℕ) → Reads (Some r) (operation_at b c.at) → ChosenRead b ts o c.branch c.tuple r
+  unfolding execute operations
+  chosen_read short r q =
+      let g = guard_read b c.at h.item h.stands short r q in
+      let guard : h.item.guard ≡ operation_is r.0 = let e = g.1 in cc in
+      record {
+        guard = g.0;
+        finds = subst (λ (o : Model.Operation). Finds ts o c.tuple) guard h.guard;
+        is = ap (map (execute ts)) h.is ∙ (λ k. some (record { branch = (sym (add-one h.index) ∙ sym h.number) k; result = perform_all (g.1 k) unbound ts }));
+        some = λ z. omega (arith, h.number);
+      }
 
 -- the branch ran, whole or not at all
-pub attempted : (b : List ℕ) (ts : List Tuple) (st : Statement) (number tuple : ℕ) (r : OperationRead) → ChosenRead b ts (chosen ts st) number tuple r → (number ≡ 0 → ⊥)
+pub attempted : (b : List ℕ) (ts : List Tuple) (st : Statement) (number tuple : ℕ) (r : Operation × ℕ) → ChosenRead b ts (chosen ts st) number tuple r
     → (outcome n : ℕ) (v : Vars) (p : List ℕ) → Whole (perform_all (branch_of b r) unbound ts) ts outcome n v p → Attempted (attempt ts st) ts number outcome n v p
 unfolding attempt
-attempted b ts st number tuple r c z outcome n v p h = rw c.is (go number z)
+attempted b ts st number tuple r c outcome n v p h = rw c.is (go number c.some)
   where
     go : (k : ℕ) → (k ≡ 0 → ⊥) → Attempted (some (record { branch = k; result = perform_all (branch_of b r) unbound ts })) ts k outcome n v p
     go zero z = absurd (z refl)

@@ -1,9 +1,9 @@
 -- Operations that cannot fail: moves, and outs that make no sum, where there is room for their tuples. Assumes nothing.
-use Rattle.std.specs.Prelude.{◌≡◌, refl, ℕ, zero, suc, ◌+◌, ◌-◌, ◌≤◌, ◌<◌, Bool, true, false, not, List, [], ◌∷◌, ◌++◌, map, ◌⊎◌, drop, get_or, T, leb}
-use Rattle.std.proofs.Common.{sym, ap, subst, ◌∙◌, inl, inr, length-append, le-leb}
+use Rattle.std.specs.Prelude.{◌≡◌, refl, ℕ, zero, suc, ◌+◌, ◌-◌, ◌≤◌, ◌<◌, Bool, true, false, not, ◌&&◌, ◌||◌, List, [], ◌∷◌, ◌++◌, map, ◌⊎◌, Some, drop, get_or, T, leb, eqb}
+use Rattle.std.proofs.Common.{sym, ap, subst, ◌∙◌, inl, inr, length-append, le-leb, ne_eqb, add-one, drop-cons, drop_of_length-le}
 use native.Mathlib.Omega.{arith}
 use Rattle.std.proofs.Math.Option.{none, some, some-injective, none-ne-some}
-use Rattle.std.proofs.Math.ListN.{length}
+use Rattle.std.proofs.Math.ListN.{length, get_or-map}
 use Rattle.std.proofs.lemmas.List.{length-map}
 use Rattle.basis.specs.Logic.{and_l, and_r, both}
 use Rattle.basis.specs.Lists.{all, keep}
@@ -19,11 +19,10 @@ use Rattle.model.proofs.ReadBack.{then_some}
 use Rattle.statements.specs.At.{which}
 use Rattle.statements.specs.Fixed.{fixed_byte}
 use Rattle.statements.specs.Operations.{suffix_operation}
-use Rattle.statements.specs.Flat.{field_of, field_is, few_fields, operation_of, operation_is, Reads, operation_at}
+use Rattle.statements.specs.Flat.{field_of, field_is, fields_are, few_fields, operation_of, operation_is, Reads, operation_at}
 use Rattle.statements.specs.Front.{bare_at, bare_is}
 use Rattle.statements.specs.declared.Field.{Field}
 use Rattle.statements.specs.declared.Operation.{Operation}
-use Rattle.statements.specs.declared.OperationRead.{OperationRead}
 use Rattle.statements.specs.declared.Bare.{Bare}
 use Rattle.bindings.specs.declared.Vars.{Vars}
 use Rattle.bindings.specs.Fields.{fields_in}
@@ -160,22 +159,22 @@ module _ (b : List ℕ) (at m : ℕ) (h : Operations b at (suc m)) where
   first_same : (o : Model.Operation) (os : List Model.Operation) → operations_at b at (suc m) ≡ o ∷ os → o ≡ one.item
   first_same o os e = let f = one.items in cc
 
-pub pass_out : (b : List ℕ) (at room : ℕ) (r : OperationRead) → Reads r (operation_at b at) → get_or b at 0 ≡ 5 → 0 < room → T (all is_plain (fields_in r.operation)) → Passes b at room r.end (room - 1)
+pub pass_out : (b : List ℕ) (at room : ℕ) (r : Operation × ℕ) → Reads (Some r) (operation_at b at) → get_or b at 0 ≡ 5 → 0 < room → T (all is_plain (fields_in r.0)) → Passes b at room r.1 (room - 1)
 pass_out b at room r e c pos t m h =
     let n = read_next b at m h r e in
     let d = is_out b at (one b at m h).item (drop (one b at m h).end b) (one b at m h).reads c in
-    let is : operation_is r.operation ≡ deposit d.0 d.1 = first_same b at m h (operation_is r.operation) (operations_at b r.end m) n.items ∙ d.2 in
-    let plain : T (all is_plain d.1) = subst (λ (fs : List Model.Field). T (all is_plain fs)) (out_fields r.operation d.0 d.1 is) t in
+    let is : operation_is r.0 ≡ deposit d.0 d.1 = first_same b at m h (operation_is r.0) (operations_at b r.1 m) n.items ∙ d.2 in
+    let plain : T (all is_plain d.1) = subst (λ (fs : List Model.Field). T (all is_plain fs)) (out_fields r.0 d.0 d.1 is) t in
     let more : room - 1 + 1 ≡ room = omega arith in
-    let items : operations_at b at (suc m) ≡ deposit d.0 d.1 ∷ operations_at b r.end m = n.items ∙ ap (λ (o : Model.Operation). o ∷ operations_at b r.end m) is in
-    (n.later, λ s. subst (CannotFail room) (sym items) (subst (λ (k : ℕ). CannotFail k (deposit d.0 d.1 ∷ operations_at b r.end m)) more (an_out plain s)))
+    let items : operations_at b at (suc m) ≡ deposit d.0 d.1 ∷ operations_at b r.1 m = n.items ∙ ap (λ (o : Model.Operation). o ∷ operations_at b r.1 m) is in
+    (n.later, λ s. subst (CannotFail room) (sym items) (subst (λ (k : ℕ). CannotFail k (deposit d.0 d.1 ∷ operations_at b r.1 m)) more (an_out plain s)))
 
-pub pass_move : (b : List ℕ) (at room : ℕ) (r : Bare) → bare_is r ≡ bare_at (operation_at b at) → get_or b at 0 ≡ 6 → Passes b at room r.end room
+pub pass_move : (b : List ℕ) (at room : ℕ) (r : Bare × ℕ) → bare_is (Some r) ≡ bare_at (operation_at b at) → get_or b at 0 ≡ 6 → Passes b at room r.1 room
 pass_move b at room r e c m h =
     let p = pass_next b at m h r e in
     let d = is_move b at (one b at m h).item (drop (one b at m h).end b) (one b at m h).reads c in
-    let is : p.item ≡ transfer true d.0 d.1 d.2 = first_same b at m h p.item (operations_at b r.end m) p.next.items ∙ d.3 in
-    let items : operations_at b at (suc m) ≡ transfer true d.0 d.1 d.2 ∷ operations_at b r.end m = p.next.items ∙ ap (λ (o : Model.Operation). o ∷ operations_at b r.end m) is in
+    let is : p.item ≡ transfer true d.0 d.1 d.2 = first_same b at m h p.item (operations_at b r.1 m) p.next.items ∙ d.3 in
+    let items : operations_at b at (suc m) ≡ transfer true d.0 d.1 d.2 ∷ operations_at b r.1 m = p.next.items ∙ ap (λ (o : Model.Operation). o ∷ operations_at b r.1 m) is in
     (p.next.later, λ s. subst (CannotFail room) (sym items) (a_move s))
 
 -- as the code goes through them: those from a position on decide
@@ -183,13 +182,16 @@ pub record Passing (b : List ℕ) (at count room next left free : ℕ) : Type 0 
   pub stands : Operations b next left
   pub decide : CannotFail free (operations_at b next left) → CannotFail room (operations_at b at count)
 
+pub passing_start : (b : List ℕ) (at count room : ℕ) → Operations b at count → Passing b at count room at (count - 0) room
+passing_start b at count room h = let e : count - 0 ≡ count = omega arith in rw e (record { stands = h; decide = λ k. k })
+
 module _ (b : List ℕ) (at count room next left free : ℕ) (h : Passing b at count room next left free) where
   -- none is left
   pub passing_end : left ≡ 0 → CannotFail room (operations_at b at count)
   passing_end z = h.decide (subst (CannotFail free) (sym (ap (operations_at b next) z ∙ no_items operation b next)) none_left)
 
   module _ (m : ℕ) (s : left ≡ suc m) where
-    to_come_lem : Operations b next (suc m)
+    pub to_come_lem : Operations b next (suc m)
     to_come_lem = subst (Operations b next) s h.stands
 
     pub passing_within : next < length b
@@ -202,22 +204,49 @@ module _ (b : List ℕ) (at count room next left free : ℕ) (h : Passing b at c
 
 -- ---- the fields of an out
 
-pub plain_actual : (f : Field) → f.form ≡ 0 → T (is_plain (field_is f))
+-- forms 0 and 2
+pub plain_form : (f : Field) → is_plain (field_is f) ≡ (eqb f.form 0 || eqb f.form 2)
 unfolding field_is field_of is_plain
-plain_actual f e = rw e tt
+plain_form f = go f.form
+  where
+    go : (form : ℕ) → is_plain (field_of form f.kind f.variable f.bits f.highest) ≡ (eqb form 0 || eqb form 2)
+    go zero = refl
+    go (suc zero) = refl
+    go (suc (suc zero)) = refl
+    go (suc (suc (suc zero))) = refl
+    go (suc (suc (suc (suc zero)))) = refl
+    go (suc (suc (suc (suc (suc zero))))) = refl
+    go (suc (suc (suc (suc (suc (suc n)))))) =
+        let form : ℕ = suc (suc (suc (suc (suc (suc n))))) in
+        rw (ne_eqb form 0 (λ z. omega arith), ne_eqb form 2 (λ z. omega arith))
 
-pub plain_reference : (f : Field) → f.form ≡ 2 → T (is_plain (field_is f))
-unfolding field_is field_of is_plain
-plain_reference f e = rw e tt
+-- the field of the code with number j stands first of those from j on
+pub plain_at : (l : List Field) (j : ℕ) (d : Field) → j < length l → drop j (fields_are l) ≡ field_is (get_or l j d) ∷ drop (j + 1) (fields_are l)
+unfolding fields_are
+plain_at l j d h =
+    let few : j < length (map field_is l) = omega (arith, length-map l field_is) in
+    drop-cons (map field_is l) j (field_is d) few ∙ rw (get_or-map field_is l j d, add-one j)
 
--- where those from j on are plain, all are
+pub plain_past : (l : List Field) (j : ℕ) → length l ≤ j → drop j (fields_are l) ≡ []
+unfolding fields_are
+plain_past l j h = drop_of_length-le (map field_is l) (let few : length (map field_is l) ≤ j = omega (arith, length-map l field_is) in few)
+
+-- whether the fields from number j on are plain decides
 abbrev pub PlainFrom : List Model.Field → ℕ → Type 0
-PlainFrom fs j = T (all is_plain (drop j fs)) → T (all is_plain fs)
+PlainFrom fs j = all is_plain fs ≡ all is_plain (drop j fs)
 
-pub plain_more : (fs : List Model.Field) (j : ℕ) (f : Model.Field) → drop j fs ≡ f ∷ drop (j + 1) fs → T (is_plain f) → PlainFrom fs j → PlainFrom fs (j + 1)
-unfolding all
-plain_more fs j f e t h s = h (rw e (both (is_plain f) (all is_plain (drop (j + 1) fs)) t s))
+module _ (fs : List Model.Field) (j : ℕ) (h : PlainFrom fs j) where
+  pub plain_all : drop j fs ≡ [] → true ≡ all is_plain fs
+  unfolding all
+  plain_all e = sym (h ∙ rw e)
 
-pub plain_all : (fs : List Model.Field) (j : ℕ) → drop j fs ≡ [] → PlainFrom fs j → T (all is_plain fs)
-unfolding all
-plain_all fs j e h = h (rw e tt)
+  module _ (f : Model.Field) (e : drop j fs ≡ f ∷ drop (j + 1) fs) (t : Bool) (q : t ≡ is_plain f) where
+    whole : all is_plain fs ≡ (t && all is_plain (drop (j + 1) fs))
+    unfolding all
+    whole = h ∙ rw (e, q)
+
+    pub plain_stop : t ≡ false → false ≡ all is_plain fs
+    plain_stop z = sym (whole ∙ rw z)
+
+    pub plain_more : t ≡ true → PlainFrom fs (j + 1)
+    plain_more z = whole ∙ rw z

@@ -1,19 +1,20 @@
 // Rules 3 to 5: the branch that was chosen of a statement, on the tuples of a state.
 #![tactic(auto)]
 
-ghost use Rattle.std.specs.Prelude.{◌≡◌, ◌≤◌, ◌<◌, true, length, T};
+ghost use Rattle.std.specs.Prelude.{◌≡◌, ◌≤◌, ◌<◌, true, IfSome, length, T};
+ghost use Rattle.basis.specs.Choice.{is_some};
 ghost use Rattle.basis.specs.Lists.{all};
 ghost use Rattle.basis.specs.Sizes.{most_fields, most_tuples};
 ghost use Rattle.model.specs.Matching.{unbound};
 ghost use Rattle.model.specs.Execution.{perform_all, chosen, attempt};
 ghost use Rattle.model.specs.Legal.{legal_body};
 ghost use Rattle.layout.specs.Stored.{statement_of};
-ghost use Rattle.statements.specs.Flat.{field_is, operation_is};
+ghost use Rattle.statements.specs.Flat.{field_is, operation_is, operation_at};
 ghost use Rattle.tuples.specs.Section.{tuples_of, Section};
 ghost use Rattle.bindings.specs.Variables.{bindings_of};
 ghost use Rattle.bindings.specs.Fields.{fields_in};
 ghost use Rattle.walk.specs.Walk.{Operations, operations_at};
-ghost use Rattle.walk.specs.Choosing.{Finds, Chooses};
+ghost use Rattle.walk.specs.Choosing.{Finds, Picks};
 ghost use Rattle.operations.specs.Performing.{Leaves};
 ghost use Rattle.operations.specs.Codes.{room_after};
 ghost use Rattle.engine.specs.Ahead.{Ahead};
@@ -22,7 +23,7 @@ ghost use Rattle.engine.specs.Attempting.{GuardRead, body_of, branch_of, Whole, 
 
 use bindings::Vars;
 use operations::Done;
-use statements::{Field, OUT, Operation, OperationRead, pass_operation, read_operation};
+use statements::{Field, OUT, Operation, standing_bare, standing_operation};
 use walk::Choice;
 
 // ---- operations in their order
@@ -42,18 +43,15 @@ fn run_operations(
     let mut m = n;
     let mut w = v;
     let mut next = at;
-    let mut left = count;
-    while 0 < left {
-        let r = read_operation(body, next);
-        let op = r.operation;
+    for _ in 0..count {
+        let (op, end) = standing_operation(body, next);
         let d = operations::perform(tuples, m, op, w);
         if d.outcome != 0 {
             return d;
         }
         m = d.n;
         w = d.vars;
-        next = r.end;
-        left -= 1;
+        next = end;
     }
     Done {
         outcome: 0,
@@ -63,12 +61,11 @@ fn run_operations(
 }
 
 // Rules 3 to 5 on a branch whose guard was read, and finds the tuple at index i: its guard, then its body.
-fn run_branch(tuples: &mut [u8], n: usize, body: &[u8], guard: OperationRead, i: usize) -> Done
-    requires { Section tuples.old n × GuardRead body.now guard × Finds (tuples_of tuples.old n) (operation_is guard.operation) i }
-    ensures { Leaves (perform_all (branch_of body.now guard) unbound (tuples_of tuples.old n)) result.outcome result.n result.vars tuples.new × (CannotFail (room_after guard.operation.code n) (body_of body.now guard) → result.outcome ≡ 0) }
+fn run_branch(tuples: &mut [u8], n: usize, body: &[u8], guard: (Operation, usize), i: usize) -> Done
+    requires { Section tuples.old n × GuardRead body.now guard × Finds (tuples_of tuples.old n) (operation_is guard.0) i }
+    ensures { Leaves (perform_all (branch_of body.now guard) unbound (tuples_of tuples.old n)) result.outcome result.n result.vars tuples.new × (CannotFail (room_after guard.0.code n) (body_of body.now guard) → result.outcome ≡ 0) }
 {
-    let op = guard.operation;
-    let end = guard.end;
+    let (op, end) = guard;
     let d = operations::perform_guard(tuples, n, op, i);
     let w = d.vars;
     run_operations(
@@ -88,64 +85,46 @@ const MOVE: u8 = 6;
 
 // A field that gives its value, or its variable's, as it is.
 fn is_plain(f: Field) -> bool
-    ensures { result ≡ true → T (is_plain (field_is f)) }
+    ensures { result ≡ is_plain (field_is f) }
 {
-    if f.form == 0 {
-        return true;
-    }
-    f.form == 2
+    matches!(f.form, 0 | 2)
 }
 
 // That an operation makes no sum, and so no value "off the range or not finite" (17).
 fn makes_no_sum(op: Operation) -> bool
     requires { op.count ≤ most_fields }
-    ensures { result ≡ true → T (all is_plain (fields_in op)) }
+    ensures { result ≡ all is_plain (fields_in op) }
 {
-    let n = op.count;
-    let mut j = 0;
-    while j < n {
-        if !is_plain(op.fields[j]) {
+    for f in &op.fields[..op.count] {
+        if !is_plain(*f) {
             return false;
         }
-        j += 1;
     }
     true
 }
 
-// An operation that cannot fail was passed over: the position after it, and the room for tuples that it leaves; position 0: it can fail.
-#[derive(Clone, Copy)]
-struct Step {
-    pub end: usize,
-    pub room: usize,
-}
-
-// A move cannot fail, nor an out without a sum where there is room for its tuple. In, rd and copy can: their fields are not read.
-fn pass_unfailing(body: &[u8], at: usize, room: usize) -> Step
-    requires { at < length body.now }
-    ensures { (result.end ≡ 0 → ⊥) → Passes body.now at room result.end result.room }
+// A move cannot fail, nor an out without a sum where there is room for its tuple: the position after it, and the room for tuples that it leaves. In, rd
+// and copy can: their fields are not read.
+fn pass_unfailing(body: &[u8], at: usize, room: usize) -> Option<(usize, usize)>
+    requires { (at < length body.now) × T (is_some (operation_at body.now at)) }
+    ensures { IfSome result (λ s. Passes body.now at room s.0 s.1) }
 {
     let code = body[at];
     if code == MOVE {
-        return Step {
-            end: pass_operation(body, at).end,
-            room,
-        };
+        let (_, end) = standing_bare(body, at);
+        return Some((end, room));
     }
     if code != OUT {
-        return Step { end: 0, room };
+        return None;
     }
     if room == 0 {
-        return Step { end: 0, room };
+        return None;
     }
-    let r = read_operation(body, at);
-    let op = r.operation;
+    let (op, end) = standing_operation(body, at);
     if !makes_no_sum(op) {
-        return Step { end: 0, room };
+        return None;
     }
-    Step {
-        end: r.end,
-        room: room - 1,
-    }
+    Some((end, room - 1))
 }
 
 // That so many operations from a position on cannot fail, whatever the tuples, where there is room for so many more.
@@ -154,40 +133,29 @@ fn cannot_fail(body: &[u8], at: usize, count: usize, room: usize) -> bool
     ensures { result ≡ true → CannotFail room (operations_at body.now at count) }
 {
     let mut next = at;
-    let mut left = count;
     let mut free = room;
-    while 0 < left {
-        let s = pass_unfailing(body, next, free);
-        if s.end == 0 {
+    for _ in 0..count {
+        let Some((end, left)) = pass_unfailing(body, next, free) else {
             return false;
-        }
-        next = s.end;
-        free = s.room;
-        left -= 1;
+        };
+        next = end;
+        free = left;
     }
     true
 }
 
 // ---- whole or not at all
 
-// The larger of two numbers.
-fn larger(a: usize, b: usize) -> usize
-    requires { (a ≤ most_tuples) × (b ≤ most_tuples) }
-    ensures { (a ≤ result) × (b ≤ result) × (result ≤ most_tuples) }
-{
-    if a < b { b } else { a }
-}
-
 // Rule 5 on a branch that can fail: the tuples are saved, and put back where it fails.
-fn run_saved(tuples: &mut [u8], n: usize, body: &[u8], guard: OperationRead, i: usize) -> Done
-    requires { Section tuples.old n × GuardRead body.now guard × Finds (tuples_of tuples.old n) (operation_is guard.operation) i }
+fn run_saved(tuples: &mut [u8], n: usize, body: &[u8], guard: (Operation, usize), i: usize) -> Done
+    requires { Section tuples.old n × GuardRead body.now guard × Finds (tuples_of tuples.old n) (operation_is guard.0) i }
     ensures { Whole (perform_all (branch_of body.now guard) unbound (tuples_of tuples.old n)) (tuples_of tuples.old n) result.outcome result.n result.vars tuples.new }
 {
     let mut saved = [0u8; words::TUPLES];
     tuples::copy_rows(&mut saved, 0, tuples, 0, n);
     let d = run_branch(tuples, n, body, guard, i);
     if d.outcome != 0 {
-        tuples::copy_rows(tuples, 0, &saved, 0, larger(n, d.n));
+        tuples::copy_rows(tuples, 0, &saved, 0, usize::max(n, d.n));
         let vars = d.vars;
         return Done {
             outcome: d.outcome,
@@ -199,12 +167,12 @@ fn run_saved(tuples: &mut [u8], n: usize, body: &[u8], guard: OperationRead, i: 
 }
 
 // Rule 5: the branch runs in place; the tuples are saved only where it can fail.
-fn run_whole(tuples: &mut [u8], n: usize, body: &[u8], guard: OperationRead, i: usize) -> Done
-    requires { Section tuples.old n × GuardRead body.now guard × Finds (tuples_of tuples.old n) (operation_is guard.operation) i }
+fn run_whole(tuples: &mut [u8], n: usize, body: &[u8], guard: (Operation, usize), i: usize) -> Done
+    requires { Section tuples.old n × GuardRead body.now guard × Finds (tuples_of tuples.old n) (operation_is guard.0) i }
     ensures { Whole (perform_all (branch_of body.now guard) unbound (tuples_of tuples.old n)) (tuples_of tuples.old n) result.outcome result.n result.vars tuples.new }
 {
-    let end = guard.end;
-    let room = operations::room_after(guard.operation.code, n);
+    let (op, end) = guard;
+    let room = operations::room_after(op.code, n);
     if cannot_fail(body, end + words::COUNT_WIDTH, words::size(body[end]), room) {
         return run_branch(tuples, n, body, guard, i);
     }
@@ -222,10 +190,10 @@ pub struct Ran {
 
 // Rules 3 to 5 with the branch that was chosen, whole or not at all.
 pub fn execute(tuples: &mut [u8], n: usize, body: &[u8], choice: Choice) -> Ran
-    requires { Section tuples.old n × T (legal_body body.now) × Chooses body.now (tuples_of tuples.old n) (chosen (tuples_of tuples.old n) (statement_of body.now)) choice.branch choice.at choice.tuple × (choice.branch ≡ 0 → ⊥) }
+    requires { Section tuples.old n × T (legal_body body.now) × Picks body.now (tuples_of tuples.old n) (chosen (tuples_of tuples.old n) (statement_of body.now)) choice }
     ensures { Attempted (attempt (tuples_of tuples.old n) (statement_of body.now)) (tuples_of tuples.old n) result.branch result.outcome result.n result.vars tuples.new }
 {
-    let guard = read_operation(body, choice.at);
+    let guard = standing_operation(body, choice.at);
     let d = run_whole(tuples, n, body, guard, choice.tuple);
     let vars = d.vars;
     Ran {

@@ -1,5 +1,6 @@
 -- The kinds after one field of an operation. Assumes nothing.
-use Rattle.std.specs.Prelude.{◌≡◌, ℕ, true, false, ◌&&◌, List}
+use Rattle.std.specs.Prelude as rust
+use Rattle.std.specs.Prelude.{◌≡◌, ℕ, true, false, ◌&&◌, List, None, Some}
 use Rattle.std.proofs.Math.Option.{Option}
 use Rattle.basis.specs.Choice.{provided}
 use Rattle.model.specs.Statement as model
@@ -11,12 +12,11 @@ use Rattle.fields.specs.Forms.{allows}
 unfoldable pub stepped : (code : ℕ) (earlier now : Kinds) → model.Field → (form : ℕ) → Option Kinds
 stepped code earlier now f form = provided (allows code form && legal_field earlier now f) (bind_kind now f)
 
-pub stepped_refused : (code : ℕ) (earlier now : Kinds) (f : model.Field) (form : ℕ) (left : List ℕ) → (allows code form && legal_field earlier now f) ≡ false
-    → bound_is (record { ok = false; kinds = left }) ≡ stepped code earlier now f form
+pub stepped_refused : (code : ℕ) (earlier now : Kinds) (f : model.Field) (form : ℕ) → (allows code form && legal_field earlier now f) ≡ false → bound_is None ≡ stepped code earlier now f form
 unfolding bound_is stepped provided
-stepped_refused code earlier now f form left e = rw e
+stepped_refused code earlier now f form e = rw e
 
-pub stepped_legal : (code : ℕ) (earlier now : Kinds) (f : model.Field) (form : ℕ) (kinds : List ℕ) → (allows code form && legal_field earlier now f) ≡ true
-    → kinds_are kinds ≡ bind_kind now f → bound_is (record { ok = true; kinds = kinds }) ≡ stepped code earlier now f form
+pub stepped_legal : (code : ℕ) (earlier now : Kinds) (f : model.Field) (form : ℕ) (kinds : List (rust.Option ℕ)) → (allows code form && legal_field earlier now f) ≡ true
+    → kinds_are kinds ≡ bind_kind now f → bound_is (Some kinds) ≡ stepped code earlier now f form
 unfolding bound_is stepped provided
 stepped_legal code earlier now f form kinds e k = rw (e, k)

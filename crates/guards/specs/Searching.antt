@@ -1,7 +1,8 @@
 -- Rule 2: the branch search, branch by branch and tuple by tuple. Assumes nothing.
-use Rattle.std.specs.Prelude.{◌≡◌, ℕ, zero, suc, ◌+◌, ◌-◌, ◌≤◌, ◌<◌, Bool, List, [], ◌∷◌, ◌⊎◌, get_or, T}
+use Rattle.std.specs.Prelude as code
+use Rattle.std.specs.Prelude.{◌≡◌, ℕ, zero, suc, ◌+◌, ◌-◌, ◌≤◌, ◌<◌, Bool, ◌||◌, List, [], ◌∷◌, None, Some, length, get_or, T, eqb}
 use Rattle.std.proofs.Math.Path.{refl, sym, ap, subst}
-use Rattle.std.proofs.Common.{◌∙◌, arith, inl, inr, ne_eqb}
+use Rattle.std.proofs.Common.{◌∙◌, arith}
 use Rattle.std.proofs.Math.Numerals.{add-one}
 use Rattle.std.proofs.Math.Bool.{true, false}
 use Rattle.std.proofs.Math.Option.{Option, none, some, none-ne-some}
@@ -20,8 +21,6 @@ use Rattle.model.specs.Execution.{sought, holds, guard_holds, ready, chosen, is_
 use Rattle.layout.specs.Stored.{statement_of}
 use Rattle.statements.specs.declared.Bare.{Bare}
 use Rattle.statements.specs.declared.Operation.{Operation}
-use Rattle.statements.specs.declared.OperationRead.{OperationRead}
-use Rattle.statements.specs.At.{position}
 use Rattle.statements.specs.Ends.{end_at}
 use Rattle.statements.specs.Codes.{blocking_of}
 use Rattle.statements.specs.Flat.{operation_of, operation_is, few_fields}
@@ -32,8 +31,9 @@ use Rattle.matching.specs.Meaning.{template_is, found_is}
 use Rattle.matching.specs.SearchLaws.{searched, search_hit, search_end}
 use Rattle.bindings.specs.Fields.{fields_in}
 use Rattle.walk.specs.Standing.{no_items}
-use Rattle.walk.specs.Walk.{Branches, branches_from, NextBranch, ReadBranch, PassedBranch, operations_past, stop_is, body_is, body_branches}
-use Rattle.walk.specs.Choosing.{Chosen, Finds, is_true, finds, Chooses, nothing, chosen_at}
+use Rattle.walk.specs.declared.Choice.{Choice}
+use Rattle.walk.specs.Walk.{Branches, branches_from, NextBranch, ReadBranch, PassedBranch, operations_there, operations_past, stop_is, body_is, body_branches}
+use Rattle.walk.specs.Choosing.{Chosen, Finds, is_true, finds, Picks, Chooses}
 
 -- ---- a guard
 
@@ -114,10 +114,14 @@ ahead_first x g b t e =
     rw n (record { stand = h.stands; same = e ∙ ap g (sym h.items) })
 
 -- the position after the body of a branch, as the code finds it, is where the others stand
-pub body_past : (b : List ℕ) (at others end : ℕ) (h : NextBranch b at others end) (count next : ℕ) → count ≡ get_or b end 0 → position next ≡ end_at (several operation count) (all few_fields) b (end + count_width) → next ≡ h.stop
+pub body_past : (b : List ℕ) (at others end : ℕ) (h : NextBranch b at others end) (count next : ℕ) → count ≡ get_or b end 0 → some next ≡ end_at (several operation count) (all few_fields) b (end + count_width) → next ≡ h.stop
 body_past b at others end h count next c e =
-    let k = operations_past b (end + count_width) (get_or b end 0) next h.body (rw c at e) in
+    let k = operations_past b (end + count_width) (get_or b end 0) h.body next (rw c at e) in
     stop_is b at others end next h k.1 k.0
+
+-- there is one
+pub body_there : (b : List ℕ) (at others end : ℕ) (h : NextBranch b at others end) (count : ℕ) → count ≡ get_or b end 0 → T (is_some (end_at (several operation count) (all few_fields) b (end + count_width)))
+body_there b at others end h count c = rw c (operations_there b (end + count_width) (get_or b end 0) h.body)
 
 module _ {B : Type 0} (x : B) (g : List Branch → B) (b : List ℕ) (at count : ℕ) (h : Ahead x g b at count) where
   pub ahead_end : count ≡ 0 → x ≡ g []
@@ -136,7 +140,7 @@ module _ {B : Type 0} (x : B) (g : List Branch → B) (b : List ℕ) (at count :
       ahead_next f e next q = rw q (record { stand = n.later; same = ahead_here ∙ e (branches_from b n.stop others) })
 
 -- a guard that was read is one
-pub read_guard : (b : List ℕ) (at others : ℕ) (r : OperationRead) → ReadBranch b at others r → T (is_guard (operation_is r.operation))
+pub read_guard : (b : List ℕ) (at others : ℕ) (r : Operation × ℕ) → ReadBranch b at others r → T (is_guard (operation_is r.0))
 unfolding legal_branch
 read_guard b at others r n = let t = n.0.legal in rw n.1 (search (and_l, t) depth 6)
 
@@ -155,59 +159,42 @@ module _ (b : List ℕ) (ts : List Tuple) where
     abbrev choice : Option (Found Branch)
     choice = chosen ts (statement_of b)
 
-    pub seek_end : count ≡ 0 → (n j : ℕ) → n ≡ 0 → Chooses b ts choice n at j
+    pub seek_end : count ≡ 0 → (c : code.Option Choice) → c ≡ None → Chooses b ts choice c
     unfolding first_from
-    seek_end z n j e = rw e (nothing (ahead_end choice (first_from (guard_holds ts) i) b at count h z))
+    seek_end z c e = rw e (ahead_end choice (first_from (guard_holds ts) i) b at count h z)
 
-    module _ (others : ℕ) (s : count ≡ suc others) (r : OperationRead) (n : ReadBranch b at others r) where
+    module _ (others : ℕ) (s : count ≡ suc others) (r : Operation × ℕ) (n : ReadBranch b at others r) where
       -- its guard finds a tuple or is true
-      pub seek_found : (j : ℕ) → Finds ts (operation_is r.operation) j → Chooses b ts choice (i + 1) at j
+      pub seek_found : (j : ℕ) → Finds ts (operation_is r.0) j → Chooses b ts choice (Some (record { branch = i + 1; at = at; tuple = j }))
       unfolding first_from guard_holds
       seek_found j f =
           let k = n.0 in
           let f : Finds ts k.first.guard j = subst (λ (o : Model.Operation). Finds ts o j) n.1 f in
-          let first_is : choice ≡ some (record { index = i; item = k.first }) = ahead_here choice (first_from (guard_holds ts) i) b at count h others s r.end k ∙ rw (finds_holds ts k.first.guard j f) in
-          chosen_at first_is (record { rest = drop k.stop b; reads = k.reads; legal = k.legal }) f
+          let first_is : choice ≡ some (record { index = i; item = k.first }) = ahead_here choice (first_from (guard_holds ts) i) b at count h others s r.1 k ∙ rw (finds_holds ts k.first.guard j f) in
+          record { index = i; item = k.first; is = first_is; number = refl; stands = record { rest = drop k.stop b; reads = k.reads; legal = k.legal }; guard = f }
 
       -- it does not
-      pub seek_next : holds ts (operation_is r.operation) ≡ false → (next : ℕ) → next ≡ n.0.stop → Seeking b ts (i + 1) next others
+      pub seek_next : holds ts (operation_is r.0) ≡ false → (next : ℕ) → next ≡ n.0.stop → Seeking b ts (i + 1) next others
       unfolding first_from guard_holds
       seek_next f next q =
           let e : holds ts n.0.first.guard ≡ false = ap (holds ts) (sym n.1) ∙ f in
-          ahead_next choice (first_from (guard_holds ts) i) b at count h others s r.end n.0 (first_from (guard_holds ts) (i + 1)) (λ l. rw (e, add-one i)) next q
+          ahead_next choice (first_from (guard_holds ts) i) b at count h others s r.1 n.0 (first_from (guard_holds ts) (i + 1)) (λ l. rw (e, add-one i)) next q
 
 -- some guard holds where a branch is chosen
-module _ (b : List ℕ) (ts : List Tuple) (st : Statement) (number at tuple : ℕ) (h : Chooses b ts (chosen ts st) number at tuple) where
+module _ (ts : List Tuple) (st : Statement) where
   is_ready_lem : (o : Option (Found Branch)) → chosen ts st ≡ o → ready ts st ≡ is_some o
   unfolding ready chosen
   is_ready_lem o e = sym (first_any (guard_holds ts) st.branches) ∙ ap is_some e
 
-  pub chooses_ready : (number ≡ 0 → ⊥) → ready ts st ≡ true
+  pub picks_ready : (b : List ℕ) (c : Choice) → Picks b ts (chosen ts st) c → ready ts st ≡ true
   unfolding is_some
-  chooses_ready z = go number refl h
-    where
-      go : (m : ℕ) → number ≡ m → Chooses b ts (chosen ts st) m at tuple → ready ts st ≡ true
-      go m q (nothing e) = absurd (z q)
-      go m q (chosen_at {i} {at} {tuple} {br} e c f) = is_ready_lem (some (record { index = i; item = br })) e
+  picks_ready b c h = is_ready_lem _ h.is
 
-  pub chooses_none : number ≡ 0 → ready ts st ≡ false
+  pub none_ready : chosen ts st ≡ none → ready ts st ≡ false
   unfolding is_some
-  chooses_none z = go number z h
-    where
-      go : (m : ℕ) → m ≡ 0 → Chooses b ts (chosen ts st) m at tuple → ready ts st ≡ false
-      go m q (nothing e) = is_ready_lem none e
-      go m q (chosen_at {i} e c f) = absurd (omega (arith, q))
+  none_ready e = is_ready_lem none e
 
 -- ---- whether a statement can wait
-
--- in and rd block
-pub code_blocks : (r : Bare) → (r.code ≡ 1) ⊎ (r.code ≡ 3) → is_blocking (operation_of r.code r.from r.to []) ≡ true
-code_blocks r (inl e) = blocking_of r.code r.from r.to [] ∙ rw e
-code_blocks r (inr e) = blocking_of r.code r.from r.to [] ∙ rw e
-
--- the others do not
-pub code_passes : (r : Bare) → (r.code ≡ 1 → ⊥) → (r.code ≡ 3 → ⊥) → is_blocking (operation_of r.code r.from r.to []) ≡ false
-code_passes r a b = blocking_of r.code r.from r.to [] ∙ rw (ne_eqb r.code 1 a, ne_eqb r.code 3 b)
 
 -- whatever the fields
 bare_blocks : (o : Model.Operation) → is_blocking (bare o) ≡ is_blocking o
@@ -234,17 +221,17 @@ module _ (b : List ℕ) where
     unfolding any
     ask_end z = sym (ahead_end (can_wait (statement_of b)) (any blocks) b at count h z)
 
-    module _ (others : ℕ) (s : count ≡ suc others) (r : Bare) (n : PassedBranch b at others r) where
-      told : (x : Bool) → is_blocking (operation_of r.code r.from r.to []) ≡ x → blocks n.0.first ≡ x
-      told x e = sym (bare_blocks n.0.first.guard) ∙ ap is_blocking (sym n.1) ∙ e
+    module _ (others : ℕ) (s : count ≡ suc others) (r : Bare × ℕ) (n : PassedBranch b at others r) (t : Bool) (e : t ≡ (eqb r.0.code 1 || eqb r.0.code 3)) where
+      told : blocks n.0.first ≡ t
+      told = sym (bare_blocks n.0.first.guard) ∙ ap is_blocking (sym n.1) ∙ blocking_of r.0.code r.0.from r.0.to [] ∙ sym e
 
-      pub ask_yes : (r.code ≡ 1) ⊎ (r.code ≡ 3) → true ≡ can_wait (statement_of b)
+      pub ask_yes : t ≡ true → true ≡ can_wait (statement_of b)
       unfolding any
-      ask_yes e = sym (ahead_here (can_wait (statement_of b)) (any blocks) b at count h others s r.end n.0 ∙ rw (told true (code_blocks r e)))
+      ask_yes z = sym (ahead_here (can_wait (statement_of b)) (any blocks) b at count h others s r.1 n.0 ∙ rw (told ∙ z))
 
-      pub ask_next : (r.code ≡ 1 → ⊥) → (r.code ≡ 3 → ⊥) → (next : ℕ) → next ≡ n.0.stop → Asking b next others
+      pub ask_next : t ≡ false → (next : ℕ) → next ≡ n.0.stop → Asking b next others
       unfolding any
-      ask_next d e next q = ahead_next (can_wait (statement_of b)) (any blocks) b at count h others s r.end n.0 (any blocks) (λ l. rw (told false (code_passes r d e))) next q
+      ask_next z next q = ahead_next (can_wait (statement_of b)) (any blocks) b at count h others s r.1 n.0 (any blocks) (λ l. rw (told ∙ z)) next q
 
 -- ---- the branch at a position
 

@@ -1,7 +1,7 @@
 // Rule 2: the guards of a statement, which branch they choose, and whether it can wait.
 #![tactic(auto)]
 
-ghost use Rattle.std.specs.Prelude.{◌≡◌, ◌≤◌, length, T};
+ghost use Rattle.std.specs.Prelude.{◌≡◌, ◌≤◌, ◌||◌, length, T, eqb};
 ghost use Rattle.basis.specs.Sizes.{most_fields, most_tuples, tuples_size};
 ghost use Rattle.model.specs.Execution.{holds, chosen, can_wait};
 ghost use Rattle.model.specs.Legal.{is_guard, legal_body};
@@ -10,41 +10,40 @@ ghost use Rattle.statements.specs.Flat.{operation_is};
 ghost use Rattle.tuples.specs.Section.{tuples_of};
 ghost use Rattle.walk.specs.Choosing.{Chooses};
 
-use statements::{Operation, pass_operation, read_operation};
-use walk::{Choice, operations_end};
+use statements::{Operation, TRUE, standing_bare, standing_operation};
+use walk::{Choice, standing_end};
 
 // Rule 2: "The branch search stops at the first branch whose guard finds a tuple or is true".
-pub fn search(tuples: &[u8], n: usize, body: &[u8]) -> Choice
+pub fn search(tuples: &[u8], n: usize, body: &[u8]) -> Option<Choice>
     requires { (length tuples.now ≡ tuples_size) × (n ≤ most_tuples) × T (legal_body body.now) }
-    ensures { Chooses body.now (tuples_of tuples.now n) (chosen (tuples_of tuples.now n) (statement_of body.now)) result.branch result.at result.tuple }
+    ensures { Chooses body.now (tuples_of tuples.now n) (chosen (tuples_of tuples.now n) (statement_of body.now)) result }
 {
-    let count = body[words::BRANCH_COUNT_AT];
-    let mut branch = 0;
     let mut at = words::BRANCHES_AT;
-    let mut tuple = 0;
-    let mut i = 0;
-    'branches: while i < count {
-        let guard = read_operation(body, at);
-        let op = guard.operation;
-        if op.code == 0 {
-            branch = i + 1;
+    let mut choice = None;
+    'branches: for i in 0..body[words::BRANCH_COUNT_AT] {
+        let (op, end) = standing_operation(body, at);
+        let branch = i + 1;
+        if op.code == TRUE {
+            choice = Some(Choice { branch, at, tuple: 0 });
             break 'branches;
         }
         let template = bindings::template_of(op, bindings::no_vars());
-        let mut j = 0;
-        'tuples: while j < n {
-            if matching::is_match(tuples, j, template) {
-                branch = i + 1;
-                tuple = j;
+        'tuples: for tuple in 0..n {
+            if matching::is_match(tuples, tuple, template) {
+                choice = Some(Choice { branch, at, tuple });
                 break 'branches;
             }
-            j += 1;
         }
-        let end = guard.end;
-        at = operations_end(body, end + words::COUNT_WIDTH, words::size(body[end]));
-        i += 1;
+        at = standing_end(body, end + words::COUNT_WIDTH, words::size(body[end]));
     }
-    Choice { branch, at, tuple }
+    choice
+}
+
+// Whether a guard of a code is in or rd.
+pub fn is_blocking(code: u8) -> bool
+    ensures { result ≡ (eqb code 1 || eqb code 3) }
+{
+    matches!(code, 1 | 3)
 }
 
 // "the statement waits when some guard is in or rd".
@@ -52,20 +51,13 @@ pub fn can_wait(body: &[u8]) -> bool
     requires { T (legal_body body.now) }
     ensures { result ≡ can_wait (statement_of body.now) }
 {
-    let count = body[words::BRANCH_COUNT_AT];
     let mut at = words::BRANCHES_AT;
-    let mut i = 0;
-    while i < count {
-        let guard = pass_operation(body, at);
-        if guard.code == 1 {
+    for _ in 0..body[words::BRANCH_COUNT_AT] {
+        let (guard, end) = standing_bare(body, at);
+        if is_blocking(guard.code) {
             return true;
         }
-        if guard.code == 3 {
-            return true;
-        }
-        let end = guard.end;
-        at = operations_end(body, end + words::COUNT_WIDTH, words::size(body[end]));
-        i += 1;
+        at = standing_end(body, end + words::COUNT_WIDTH, words::size(body[end]));
     }
     false
 }
@@ -75,7 +67,7 @@ pub fn holds(tuples: &[u8], n: usize, guard: Operation) -> bool
     requires { (length tuples.now ≡ tuples_size) × (n ≤ most_tuples) × T (is_guard (operation_is guard)) × (guard.count ≤ most_fields) }
     ensures { result ≡ holds (tuples_of tuples.now n) (operation_is guard) }
 {
-    if guard.code == 0 {
+    if guard.code == TRUE {
         return true;
     }
     let template = bindings::template_of(guard, bindings::no_vars());

@@ -1,5 +1,6 @@
 -- An operation after the kinds that earlier ones bound: its spaces and field count, then its fields. Assumes nothing.
-use Rattle.std.specs.Prelude.{◌≡◌, refl, ℕ, zero, suc, ◌≤◌, ◌<◌, Bool, true, false, ◌&&◌, cond, List, [], ◌∷◌, length, take, leb, ltb}
+use Rattle.std.specs.Prelude as rust
+use Rattle.std.specs.Prelude.{None, Some, ◌≡◌, refl, ℕ, zero, suc, ◌≤◌, ◌<◌, Bool, true, false, ◌&&◌, cond, List, [], ◌∷◌, length, take, leb, ltb}
 use Rattle.std.proofs.Common.{sym, ◌∙◌, arith, length-take-le, lt-ltb, le-ltb, le-leb, ne_eqb}
 use Rattle.std.proofs.Math.Option.{Option, none}
 use Rattle.std.proofs.lemmas.List.{length-map}
@@ -10,10 +11,9 @@ use Rattle.model.specs.Legal.{Kinds, bind_kinds, legal_fields, fields_of, is_spa
 use Rattle.statements.specs.Flat.{field_is, fields_are, operation_of, operation_is}
 use Rattle.statements.specs.declared.Operation.{Operation}
 use Rattle.statements.specs.declared.Field.{Field}
-use Rattle.fields.specs.declared.Bound.{Bound}
 use Rattle.fields.specs.Kinds.{kinds_are, bound_is}
 use Rattle.fields.specs.Forms.{allowed_by}
-use Rattle.legality.specs.Judging.{judged}
+use Rattle.legality.specs.Judging.{Held, judged}
 
 -- the spaces and the field count of an operation of a code above 0
 unfoldable pub head_legal : (code from to count : ℕ) → Bool
@@ -67,20 +67,19 @@ fields_length count fields l = length-map (take count fields) field_is ∙ lengt
 
 -- ---- an operation as a struct
 
-pub step_always : (kinds : List ℕ) (o : Operation) → o.code ≡ 0 → bound_is (record { ok = true; kinds = kinds }) ≡ operation_step (kinds_are kinds) (operation_is o)
+pub step_always : (kinds : Held) (o : Operation) → o.code ≡ 0 → bound_is (Some kinds) ≡ operation_step (kinds_are kinds) (operation_is o)
 unfolding bound_is operation_step operation_is operation_of legal_operation fields_of bind_kinds provided
 step_always kinds o e = rw e
 
-pub step_refused : (kinds left : List ℕ) (o : Operation) → (o.code ≡ 0 → ⊥) → o.count ≤ length o.fields → head_legal o.code o.from o.to o.count ≡ false
-    → bound_is (record { ok = false; kinds = left }) ≡ operation_step (kinds_are kinds) (operation_is o)
-unfolding bound_is operation_is provided
-step_refused kinds left o c l e =
-    let fs : List model.Field = fields_are (take o.count o.fields) in
-    sym (operation_step_lem (kinds_are kinds) o.code o.from o.to fs (omega (arith, c)) ∙ rw (fields_length o.count o.fields l, e))
+module _ (kinds : Held) (o : Operation) (c : o.code ≡ 0 → ⊥) (l : o.count ≤ length o.fields) where
+  step_lem : operation_step (kinds_are kinds) (operation_is o) ≡ decided (head_legal o.code o.from o.to o.count) (judged (allowed_by o.code) (kinds_are kinds) (kinds_are kinds) (fields_are (take o.count o.fields)))
+  unfolding operation_is
+  step_lem = operation_step_lem (kinds_are kinds) o.code o.from o.to (fields_are (take o.count o.fields)) (omega (arith, c)) ∙ rw (fields_length o.count o.fields l)
 
-pub step_fields : (kinds : List ℕ) (o : Operation) (r : Bound) → (o.code ≡ 0 → ⊥) → o.count ≤ length o.fields → head_legal o.code o.from o.to o.count ≡ true
-    → bound_is r ≡ judged (allowed_by o.code) (kinds_are kinds) (kinds_are kinds) (fields_are (take o.count o.fields)) → bound_is r ≡ operation_step (kinds_are kinds) (operation_is o)
-unfolding operation_is
-step_fields kinds o r c l e k =
-    let fs : List model.Field = fields_are (take o.count o.fields) in
-    k ∙ sym (operation_step_lem (kinds_are kinds) o.code o.from o.to fs (omega (arith, c)) ∙ rw (fields_length o.count o.fields l, e))
+  pub step_refused : head_legal o.code o.from o.to o.count ≡ false → bound_is None ≡ operation_step (kinds_are kinds) (operation_is o)
+  unfolding bound_is
+  step_refused e = sym (step_lem ∙ rw e)
+
+  pub step_fields : (r : rust.Option Held) → head_legal o.code o.from o.to o.count ≡ true → bound_is r ≡ judged (allowed_by o.code) (kinds_are kinds) (kinds_are kinds) (fields_are (take o.count o.fields))
+      → bound_is r ≡ operation_step (kinds_are kinds) (operation_is o)
+  step_fields r e k = k ∙ sym (step_lem ∙ rw e)

@@ -1,19 +1,18 @@
 -- One operation in code: where it may stand, by its code, and the kinds after it. Assumes nothing.
-use Rattle.std.specs.Prelude.{◌≡◌, ℕ, zero, suc, ◌%◌, ◌≤◌, ◌<◌, Bool, true, false, List, [], ◌∷◌, take, get_or, ltb, eqb}
+use Rattle.std.specs.Prelude as rust
+use Rattle.std.specs.Prelude.{None, Some, ◌≡◌, ℕ, zero, suc, ◌%◌, ◌≤◌, ◌<◌, Bool, true, false, List, [], ◌∷◌, take, get_or, ltb, eqb}
 use Rattle.std.proofs.Math.Path.{refl, sym}
-use Rattle.std.proofs.Common.{◌∙◌, arith, le-ltb}
+use Rattle.std.proofs.Common.{arith, le-ltb}
 use Rattle.std.proofs.Math.Option.{Option, none, some}
 use Rattle.std.proofs.Math.ListN.{get_or-eq_default}
-use Rattle.basis.specs.Choice.{provided}
 use Rattle.model.specs.Statement.{Field}
 use Rattle.model.specs.Legal.{Kinds, is_guard, is_body_operation}
-use Rattle.statements.specs.At.{found, found_some, found_none}
-use Rattle.statements.specs.Flat.{fields_are, operation_of, operation_is, read_is, operation_at}
+use Rattle.statements.specs.At.{read_as}
+use Rattle.statements.specs.Flat.{fields_are, operation_of, operation_is, operation_at}
 use Rattle.fields.specs.Kinds.{kinds_are, bound_is}
+use Rattle.statements.specs.declared.Operation.{Operation}
+use Rattle.legality.specs.Judging.{Held}
 use Rattle.legality.specs.OperationLaws.{operation_step}
-use Rattle.statements.specs.declared.OperationRead.{OperationRead}
-use Rattle.fields.specs.declared.Bound.{Bound}
-use Rattle.legality.specs.declared.Step.{Step}
 use Rattle.legality.specs.Steps.{place_ok, step_at}
 
 -- where an operation of a code may stand: codes 0 to 4 as a guard, in and rd and those from 5 on in a body
@@ -53,45 +52,32 @@ place_is false (suc (suc (suc (suc (suc zero))))) from to fs = refl
 place_is false (suc (suc (suc (suc (suc (suc zero)))))) from to fs = refl
 place_is false (suc (suc (suc (suc (suc (suc (suc n))))))) from to fs = refl
 
--- the kinds after an operation, and the position after it; 0: there is none
-unfoldable pub step_is : Step → Option (Kinds × ℕ)
-step_is r = found r.end (kinds_are r.kinds)
+-- the kinds after an operation, and the position after it
+abbrev pub step_is : rust.Option (Held × ℕ) → Option (Kinds × ℕ)
+step_is r = read_as kinds_are r
 
-module _ (guard : Bool) (kinds left : List ℕ) (b : List ℕ) (at : ℕ) (r : OperationRead) (h : read_is r ≡ operation_at b at) where
-  nothing : step_is (record { end = 0; kinds = left }) ≡ none
-  unfolding step_is found
-  nothing = refl
-
+module _ (guard : Bool) (kinds : Held) (b : List ℕ) (at : ℕ) where
   -- no operation
-  pub no_step : r.end ≡ 0 → step_is (record { end = 0; kinds = left }) ≡ step_at guard (kinds_are kinds) b at
-  unfolding read_is step_at
-  no_step e = nothing ∙ rw (sym h ∙ found_none r.end (operation_is r.operation) e)
-
-  there : (r.end ≡ 0 → ⊥) → operation_at b at ≡ some (operation_is r.operation, r.end)
-  unfolding read_is
-  there n = sym h ∙ found_some r.end (operation_is r.operation) (omega (arith, n))
+  pub no_step : none ≡ operation_at b at → none ≡ step_at guard (kinds_are kinds) b at
+  unfolding step_at
+  no_step h = rw (← h)
 
   -- not where it stands
-  pub no_place : (r.end ≡ 0 → ⊥) → place_by guard r.operation.code ≡ false → step_is (record { end = 0; kinds = left }) ≡ step_at guard (kinds_are kinds) b at
-  unfolding step_at operation_is
-  no_place n e =
-      let o = r.operation in
-      nothing ∙ rw (there n, place_is guard o.code o.from o.to (fields_are (take o.count o.fields)), e)
+  module _ (o : Operation) (end : ℕ) (h : some (operation_is o, end) ≡ operation_at b at) where
+    stands : place_ok guard (operation_is o) ≡ place_by guard o.code
+    unfolding operation_is
+    stands = place_is guard o.code o.from o.to (fields_are (take o.count o.fields))
 
-  -- not legal
-  pub no_legal : (r.end ≡ 0 → ⊥) → place_by guard r.operation.code ≡ true → (s : Bound) → bound_is s ≡ operation_step (kinds_are kinds) (operation_is r.operation) → s.ok ≡ false
-      → step_is (record { end = 0; kinds = left }) ≡ step_at guard (kinds_are kinds) b at
-  unfolding step_at operation_is bound_is provided
-  no_legal n e s k f =
-      let o = r.operation in
-      let q : operation_step (kinds_are kinds) (operation_is o) ≡ none = sym k ∙ rw f in
-      nothing ∙ rw (there n, place_is guard o.code o.from o.to (fields_are (take o.count o.fields)), e, q)
+    pub no_place : place_by guard o.code ≡ false → none ≡ step_at guard (kinds_are kinds) b at
+    unfolding step_at
+    no_place e = rw (← h, stands, e)
 
-  -- legal
-  pub step_there : (r.end ≡ 0 → ⊥) → place_by guard r.operation.code ≡ true → (s : Bound) → bound_is s ≡ operation_step (kinds_are kinds) (operation_is r.operation) → s.ok ≡ true
-      → step_is (record { end = r.end; kinds = s.kinds }) ≡ step_at guard (kinds_are kinds) b at
-  unfolding step_at operation_is bound_is provided step_is
-  step_there n e s k f =
-      let o = r.operation in
-      let q : operation_step (kinds_are kinds) (operation_is o) ≡ some (kinds_are s.kinds) = sym k ∙ rw f in
-      rw (there n, place_is guard o.code o.from o.to (fields_are (take o.count o.fields)), e, q) (found_some r.end (kinds_are s.kinds) (omega (arith, n)))
+    -- not legal
+    pub no_legal : place_by guard o.code ≡ true → bound_is None ≡ operation_step (kinds_are kinds) (operation_is o) → none ≡ step_at guard (kinds_are kinds) b at
+    unfolding step_at bound_is
+    no_legal e k = rw (← h, stands, e, ← k)
+
+    -- legal
+    pub step_there : (after : Held) → place_by guard o.code ≡ true → bound_is (Some after) ≡ operation_step (kinds_are kinds) (operation_is o) → some (kinds_are after, end) ≡ step_at guard (kinds_are kinds) b at
+    unfolding step_at bound_is
+    step_there after e k = rw (← h, stands, e, ← k)

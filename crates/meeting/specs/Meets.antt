@@ -1,50 +1,28 @@
 -- Two templates, field by field, and the answers of the call. Assumes nothing.
 use Rattle.std.proofs.Math.Path.{◌≡◌, refl, sym}
-use Rattle.std.proofs.Common.{ap, ◌∙◌, eq-eqb, ne_eqb}
-use Prim.Native.Nat.{ℕ, zero, suc, ◌+◌, ◌-◌, ◌≤◌, ◌<◌}
+use Rattle.std.proofs.Common.{true≢false, ap, inl, inr, ◌∙◌, eq-eqb, ne_eqb}
+use Prim.Native.Nat.{ℕ, suc, ◌+◌, ◌-◌, ◌≤◌, ◌<◌}
 use native.Mathlib.Omega.{arith}
 use Rattle.std.proofs.Math.Numerals.{add-one}
 use Rattle.std.proofs.Math.Nat.{sub-zero}
-use Rattle.std.specs.Prelude.{Bool, true, false, ◌&&◌, cond, length, get_or, eqb}
+use Rattle.std.specs.Prelude as rust
+use Rattle.std.specs.Option.{ok_or}
+use Rattle.std.specs.Result.{IsErr, IsErrAnd}
+use Rattle.std.specs.Prelude.{None, Some, Bool, true, false, ◌&&◌, ◌||◌, ◌⊎◌, cond, Result, Ok, Err, length, get_or, eqb}
 use Rattle.std.proofs.Math.Bool.{and-false}
 use Rattle.std.proofs.Math.Option.{Option, none, some}
 use mathlib.Core.List.{List, [], ◌∷◌}
-use Rattle.basis.specs.Choice.{maybe, provided}
+use Rattle.basis.specs.Choice.{maybe}
 use Rattle.model.specs.Statement.{Field}
-use Rattle.model.specs.Value.{at_most}
 use Rattle.model.specs.Matching.{TemplateField}
-use Rattle.model.specs.Meeting.{refers, template_of, overlap, fields_meet, each_meets, meet, meeting, lookup_in, can_meet}
-use Rattle.statements.specs.declared.OperationRead.{OperationRead}
+use Rattle.model.specs.Meeting.{refers, template_of, fields_meet, each_meets, meet, meeting, lookup_in, can_meet}
+use Rattle.statements.specs.declared.Operation.{Operation}
+use Rattle.meeting.specs.declared.Unmet.{Unmet}
+use Rattle.meeting.specs.declared.Unmet.TheVariants.{Malformed, Refers}
 use Rattle.matching.specs.declared.Template.{Template}
 use Rattle.matching.specs.Meaning.{template_fields_from, template_is}
 use Rattle.matching.specs.SearchLaws.{field_at, fields_from, template_length}
-use Rattle.alone.specs.Alone.{ReadAlone, read_to, sought_by}
-
--- ---- field i of two templates
-
-module _ (a b : Template) (i : ℕ) where
-  pub kinds_differ : (get_or a.kinds i 0 ≡ get_or b.kinds i 0 → ⊥) → false ≡ fields_meet (field_at a i) (field_at b i)
-  unfolding fields_meet
-  kinds_differ n = rw (ne_eqb (get_or a.kinds i 0) (get_or b.kinds i 0) n)
-
-  module _ (k : get_or a.kinds i 0 ≡ get_or b.kinds i 0) where
-    pub any_first : get_or a.given i false ≡ false → true ≡ fields_meet (field_at a i) (field_at b i)
-    unfolding fields_meet provided
-    any_first g = rw (eq-eqb (get_or a.kinds i 0) (get_or b.kinds i 0) k, g)
-
-    pub any_second : get_or a.given i false ≡ true → get_or b.given i false ≡ false → true ≡ fields_meet (field_at a i) (field_at b i)
-    unfolding fields_meet provided
-    any_second g h = rw (eq-eqb (get_or a.kinds i 0) (get_or b.kinds i 0) k, g, h)
-
-    module _ (g : get_or a.given i false ≡ true) (h : get_or b.given i false ≡ true) where
-      pub first_above : at_most (get_or a.kinds i 0) (get_or a.lowest i 0) (get_or b.highest i 0) ≡ false → false ≡ fields_meet (field_at a i) (field_at b i)
-      unfolding fields_meet provided overlap
-      first_above e = rw (eq-eqb (get_or a.kinds i 0) (get_or b.kinds i 0) k, g, h, e)
-
-      pub then_second : at_most (get_or a.kinds i 0) (get_or a.lowest i 0) (get_or b.highest i 0) ≡ true
-          → at_most (get_or a.kinds i 0) (get_or b.lowest i 0) (get_or a.highest i 0) ≡ fields_meet (field_at a i) (field_at b i)
-      unfolding fields_meet provided overlap
-      then_second e = rw (eq-eqb (get_or a.kinds i 0) (get_or b.kinds i 0) k, g, h, e)
+use Rattle.alone.specs.Alone.{ReadAlone, alone_is, sought_by}
 
 -- ---- two templates
 
@@ -56,15 +34,19 @@ other_counts (f ∷ fs) [] n = refl
 other_counts (f ∷ fs) (g ∷ gs) n = rw (other_counts fs gs (λ e. n (ap suc e))) (and-false (fields_meet f g))
 
 module _ (a b : Template) where
-  pub spaces_differ : (a.space ≡ b.space → ⊥) → false ≡ meet (template_is a) (template_is b)
+  spaces_differ : (a.space ≡ b.space → ⊥) → false ≡ meet (template_is a) (template_is b)
   unfolding meet
   spaces_differ n = rw (ne_eqb a.space b.space n)
 
-  pub counts_differ : (a.count ≡ b.count → ⊥) → false ≡ meet (template_is a) (template_is b)
+  counts_differ : (a.count ≡ b.count → ⊥) → false ≡ meet (template_is a) (template_is b)
   unfolding meet
   counts_differ n =
       rw (other_counts (fields_from a 0 a.count) (fields_from b 0 b.count) (λ e. n (sym (template_length a 0 a.count) ∙ e ∙ template_length b 0 b.count)))
       (sym (and-false (eqb a.space b.space)))
+
+  pub differ : (a.space ≡ b.space → ⊥) ⊎ ((a.space ≡ b.space) × (a.count ≡ b.count → ⊥)) → false ≡ meet (template_is a) (template_is b)
+  differ (inl n) = spaces_differ n
+  differ (inr (s, n)) = counts_differ n
 
   -- those before field i meet, and the rest decides
   pub record Meeting (n i : ℕ) : Type 0 where
@@ -92,45 +74,65 @@ module _ (a b : Template) where
 
 -- ---- the answers
 
-nothing_read : (r : OperationRead) (o : Option (ℕ × List Field)) → ReadAlone r o → r.end ≡ 0 → o ≡ none
-unfolding read_to
-nothing_read r o h e = sym h.is ∙ rw e
+-- the number that the call gives
+abbrev pub answer_is : Result Bool Unmet → ℕ
+answer_is (Ok t) = cond t 1 0
+answer_is (Err Malformed) = 6
+answer_is (Err Refers) = 19
 
-was_read : (r : OperationRead) (o : Option (ℕ × List Field)) → ReadAlone r o → (r.end ≡ 0 → ⊥) → o ≡ some (sought_by r.operation)
-was_read r o h n = sym h.is ∙ go r.end n
-  where
-    go : (end : ℕ) → (end ≡ 0 → ⊥) → read_to end (sought_by r.operation) ≡ some (sought_by r.operation)
-    go zero n = absurd (n refl)
-    go (suc end) n = unfold read_to in refl
+same : (x y : Operation) → ◌≡◌ {A = Result Operation Unmet} (Ok x) (Ok y) → x ≡ y
+same x y q = grind arith
 
-module _ (a b : List ℕ) (x y : OperationRead) where
-  pub first_malformed : ReadAlone x (lookup_in a) → x.end ≡ 0 → 6 ≡ can_meet a b
+-- an error that is passed on
+pub passed_on : (r : Result Bool Unmet) (P : Unmet → Type 0) (f : Unmet) → IsErr r → IsErrAnd r P → ((e : Unmet) → P e → e ≡ f) → answer_is r ≡ answer_is (Err f)
+passed_on (Ok t) P f i h g = absurd (true≢false (sym i))
+passed_on (Err e) P f i h g = rw (g e h)
+
+-- what was read of some bytes
+module _ (r : rust.Option Operation) (o : Option (ℕ × List Field)) (h : ReadAlone r o) (e : Unmet) where
+  pub was_read : (x : Operation) → Ok x ≡ ok_or r e → some (sought_by x) ≡ o
+  was_read x q = go r q h.is
+    where
+      go : (r : rust.Option Operation) → Ok x ≡ ok_or r e → alone_is r ≡ o → some (sought_by x) ≡ o
+      go None q k = absurd (grind arith)
+      go (Some y) q k = ap (λ z. some (sought_by z)) (same x y q) ∙ k
+
+  pub nothing_read : (f : Unmet) → Err f ≡ ok_or r e → none ≡ o
+  nothing_read f q = go r q h.is
+    where
+      go : (r : rust.Option Operation) → Err f ≡ ok_or r e → alone_is r ≡ o → none ≡ o
+      go None q k = k
+      go (Some y) q k = absurd (grind arith)
+
+  pub why_not : (f : Unmet) → Err f ≡ ok_or r e → f ≡ e
+  why_not f q = go r q
+    where
+      go : (r : rust.Option Operation) → Err f ≡ ok_or r e → f ≡ e
+      go None q = grind arith
+      go (Some y) q = absurd (grind arith)
+
+module _ (a b : List ℕ) where
+  pub first_malformed : none ≡ lookup_in a → 6 ≡ can_meet a b
   unfolding can_meet
-  first_malformed h e = rw (nothing_read x (lookup_in a) h e)
+  first_malformed h = rw (← h)
 
-  pub second_malformed : ReadAlone y (lookup_in b) → y.end ≡ 0 → 6 ≡ can_meet a b
+  pub second_malformed : none ≡ lookup_in b → 6 ≡ can_meet a b
   unfolding can_meet
-  second_malformed h e = rw (nothing_read y (lookup_in b) h e) (go (lookup_in a))
+  second_malformed h = rw (← h) (go (lookup_in a))
     where
       go : (o : Option (ℕ × List Field)) → ◌≡◌ {A = ℕ} 6 (maybe o 6 (λ x. 6))
       go none = refl
       go (some x) = refl
 
-  module _ (h : ReadAlone x (lookup_in a)) (k : ReadAlone y (lookup_in b)) (n : x.end ≡ 0 → ⊥) (m : y.end ≡ 0 → ⊥) where
-    both_read : can_meet a b ≡ meeting (sought_by x.operation) (sought_by y.operation)
+  module _ (x y : Operation) (h : some (sought_by x) ≡ lookup_in a) (k : some (sought_by y) ≡ lookup_in b) where
+    both_read : can_meet a b ≡ meeting (sought_by x) (sought_by y)
     unfolding can_meet
-    both_read = rw (was_read x (lookup_in a) h n, was_read y (lookup_in b) k m)
+    both_read = rw (← h, ← k)
 
-    pub first_refers : true ≡ refers (sought_by x.operation).1 → 19 ≡ can_meet a b
+    pub one_refers : true ≡ (refers (sought_by x).1 || refers (sought_by y).1) → 19 ≡ can_meet a b
     unfolding meeting
-    first_refers e = sym (both_read ∙ rw (sym e))
+    one_refers e = sym (both_read ∙ rw (← e))
 
-    pub second_refers : false ≡ refers (sought_by x.operation).1 → true ≡ refers (sought_by y.operation).1 → 19 ≡ can_meet a b
+    pub meets_told : false ≡ (refers (sought_by x).1 || refers (sought_by y).1) → (t : Bool) → t ≡ meet (template_of (sought_by x)) (template_of (sought_by y)) → cond t 1 0 ≡ can_meet a b
     unfolding meeting
-    second_refers e f = sym (both_read ∙ rw (sym e, sym f))
-
-    pub meets_told : false ≡ refers (sought_by x.operation).1 → false ≡ refers (sought_by y.operation).1
-        → (t : Bool) → t ≡ meet (template_of (sought_by x.operation)) (template_of (sought_by y.operation))
-        → cond t 1 0 ≡ can_meet a b
-    unfolding meeting
-    meets_told e f t q = sym (both_read ∙ rw (sym e, sym f, sym q))
+    meets_told e t q = sym (both_read ∙ rw (← e, ← q))

@@ -13,7 +13,7 @@ ghost use Rattle.spaces.specs.Spaces.{spaces_of, IsListed, Rising};
 ghost use Rattle.names.specs.Asks.{asks};
 ghost use Rattle.names.specs.Named.{PastOperations, PastBranch};
 
-use statements::{Bare, TWO_SPACES, pass_operation};
+use statements::{Bare, TRUE, TWO_SPACES, standing_bare};
 
 // What a space is tested for: that it is not open, not open to a process, or that of a number.
 #[derive(Clone, Copy)]
@@ -42,7 +42,7 @@ fn operation_names(operation: Bare, spaces: &[u8], n: usize, what: SpaceTest) ->
     requires { IsListed spaces.now n × Rising (spaces_of spaces.now n) }
     ensures { result ≡ any (asks (spaces_of spaces.now n) what) (spacesIn (operation_of operation.code operation.from operation.to [])) }
 {
-    if operation.code == 0 {
+    if operation.code == TRUE {
         return false;
     }
     if passes(spaces, n, what, operation.from) {
@@ -54,7 +54,7 @@ fn operation_names(operation: Bare, spaces: &[u8], n: usize, what: SpaceTest) ->
     passes(spaces, n, what, operation.to)
 }
 
-// Past so many operations: the position after them; 0 where one names a space that passes.
+// Past so many operations: the position after them; none where one names a space that passes.
 fn pass_operations(
     body: &[u8],
     at: usize,
@@ -62,32 +62,36 @@ fn pass_operations(
     spaces: &[u8],
     n: usize,
     what: SpaceTest,
-) -> usize
-    requires { Operations body.now at count × (0 < at) × (at ≤ length body.now) × IsListed spaces.now n × Rising (spaces_of spaces.now n) }
+) -> Option<usize>
+    requires { Operations body.now at count × (at ≤ length body.now) × IsListed spaces.now n × Rising (spaces_of spaces.now n) }
     ensures { PastOperations (asks (spaces_of spaces.now n) what) body.now at count result }
 {
     let mut end = at;
-    let mut left = count;
-    while 0 < left {
-        let operation = pass_operation(body, end);
+    for _ in 0..count {
+        let (operation, next) = standing_bare(body, end);
         if operation_names(operation, spaces, n, what) {
-            return 0;
+            return None;
         }
-        end = operation.end;
-        left -= 1;
+        end = next;
     }
-    end
+    Some(end)
 }
 
-// Past a branch with such a guard: the position after its operations; 0 where guard or operations name a space that passes.
-pub fn pass_branch(body: &[u8], guard: Bare, spaces: &[u8], n: usize, what: SpaceTest) -> usize
-    requires { (guard.end < length body.now) × Operations body.now (guard.end + count_width) (get_or body.now guard.end 0) × IsListed spaces.now n × Rising (spaces_of spaces.now n) }
-    ensures { PastBranch (asks (spaces_of spaces.now n) what) body.now guard result }
+// Past a branch with such a guard, which ends at a position: the position after its operations; none where guard or operations name a space that passes.
+pub fn pass_branch(
+    body: &[u8],
+    guard: Bare,
+    end: usize,
+    spaces: &[u8],
+    n: usize,
+    what: SpaceTest,
+) -> Option<usize>
+    requires { (end < length body.now) × Operations body.now (end + count_width) (get_or body.now end 0) × IsListed spaces.now n × Rising (spaces_of spaces.now n) }
+    ensures { PastBranch (asks (spaces_of spaces.now n) what) body.now guard end result }
 {
     if operation_names(guard, spaces, n, what) {
-        return 0;
+        return None;
     }
-    let end = guard.end;
     pass_operations(
         body,
         end + words::COUNT_WIDTH,
@@ -103,15 +107,13 @@ pub fn some_named(body: &[u8], spaces: &[u8], n: usize, what: SpaceTest) -> bool
     requires { T (legal_body body.now) × IsListed spaces.now n × Rising (spaces_of spaces.now n) }
     ensures { result ≡ any (asks (spaces_of spaces.now n) what) (spaces_named (statement_of body.now)) }
 {
-    let mut left = body[words::BRANCH_COUNT_AT];
     let mut at = words::BRANCHES_AT;
-    while 0 < left {
-        let guard = pass_operation(body, at);
-        at = pass_branch(body, guard, spaces, n, what);
-        if at == 0 {
+    for _ in 0..body[words::BRANCH_COUNT_AT] {
+        let (guard, end) = standing_bare(body, at);
+        let Some(next) = pass_branch(body, guard, end, spaces, n, what) else {
             return true;
-        }
-        left -= 1;
+        };
+        at = next;
     }
     false
 }

@@ -9,15 +9,8 @@ ghost use Rattle.oldest.specs.Searching.{ChoosesAt, Answers};
 
 use walk::Choice;
 
-// Who runs next: the waiting statement at an index, with the branch that its guards choose, or nobody.
-#[derive(Clone, Copy)]
-pub enum Oldest {
-    At(usize, Choice),
-    Nobody,
-}
-
-// The branch that the guards of the waiting statement at an index choose.
-fn waiting_choice(waiting: &[u8], n: usize, i: usize, tuples: &[u8], m: usize) -> Choice
+// The branch that the guards of the waiting statement at an index choose, if any holds.
+fn waiting_choice(waiting: &[u8], n: usize, i: usize, tuples: &[u8], m: usize) -> Option<Choice>
     requires { IsQueued waiting.now n × (i < n) × (length tuples.now ≡ tuples_size) × (m ≤ most_tuples) }
     ensures { ChoosesAt waiting.now n (tuples_of tuples.now m) i result }
 {
@@ -26,18 +19,15 @@ fn waiting_choice(waiting: &[u8], n: usize, i: usize, tuples: &[u8], m: usize) -
     guards::search(tuples, m, &waiting[from..end])
 }
 
-// The oldest of n waiting statements with a guard that holds, with m tuples.
-pub fn oldest_ready(waiting: &[u8], n: usize, tuples: &[u8], m: usize) -> Oldest
+// Who runs next: the index of the oldest of n waiting statements with a guard that holds, with m tuples, and the branch that its guards choose.
+pub fn oldest_ready(waiting: &[u8], n: usize, tuples: &[u8], m: usize) -> Option<(usize, Choice)>
     requires { IsQueued waiting.now n × (length tuples.now ≡ tuples_size) × (m ≤ most_tuples) }
     ensures { Answers waiting.now n (tuples_of tuples.now m) result }
 {
-    let mut i = 0;
-    while i < n {
-        let choice = waiting_choice(waiting, n, i, tuples, m);
-        if choice.branch != 0 {
-            return Oldest::At(i, choice);
+    for i in 0..n {
+        if let Some(choice) = waiting_choice(waiting, n, i, tuples, m) {
+            return Some((i, choice));
         }
-        i += 1;
     }
-    Oldest::Nobody
+    None
 }

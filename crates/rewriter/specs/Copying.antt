@@ -1,10 +1,11 @@
 -- A body part by part: what was read and handed in so far, and what stands ahead. Assumes nothing.
-use Rattle.std.specs.Prelude.{◌≡◌, ℕ, suc, ◌+◌, ◌-◌, ◌≤◌, ◌<◌, length, drop, get_or, T, leb}
+use Rattle.std.specs.Prelude.{◌≡◌, ℕ, suc, ◌+◌, ◌-◌, ◌≤◌, ◌<◌, length, drop, get_or, T, leb, Some}
 use Rattle.std.proofs.Common.{sym, ◌∙◌, arith, length-drop, le→leb}
 use Rattle.std.proofs.Math.Path.{ap, subst}
 use Rattle.std.proofs.Math.Option.{Option, some}
 use mathlib.Core.List.{List, [], ◌∷◌, ◌++◌, map}
 use Rattle.std.proofs.Math.Seq.{drop-append_seam}
+use Rattle.basis.specs.Choice.{is_some}
 use Rattle.basis.specs.Logic.{both}
 use Rattle.basis.specs.Numbers.{number_at}
 use Rattle.basis.specs.NumberLaws.{bytes_of_lem}
@@ -16,11 +17,11 @@ use Rattle.model.specs.Legal.{legal_branch, legal_statement, legal_body}
 use Rattle.model.specs.Writing.{statement_bytes}
 use Rattle.model.proofs.ReadBack.{BodyOf, parse_parts}
 use Rattle.layout.specs.Stored.{statement_of, legal_parse}
-use Rattle.statements.specs.declared.OperationRead.{OperationRead}
+use Rattle.statements.specs.declared.Operation as flat
 use Rattle.statements.specs.Flat.{operation_is, Reads, operation_at}
 use Rattle.walk.specs.BodyParts.{BodyParts}
 use Rattle.walk.specs.Standing.{StandAs, none_left, no_items}
-use Rattle.walk.specs.Walk.{Operations, operations_at, after_operations, Branches, branches_from, NextBranch, ReadBranch, read_next, read_branch, body_is, body_branches, body_count}
+use Rattle.walk.specs.Walk.{Operations, operations_at, after_operations, Branches, branches_from, NextBranch, ReadBranch, read_next, read_branch, branch_there, body_is, body_branches, body_count}
 use Rattle.writer.specs.declared.Added.{Added}
 use Rattle.writer.specs.Writer.{handed, begun, Written, written_is, is_writable, filled_with, begin_on, add_operation, add_branch}
 use Rattle.writer.specs.Tests.{parts_handed}
@@ -30,8 +31,8 @@ use Rattle.rewriter.specs.Fronts.{front, some_grow, grown_all}
 use Rattle.rewriter.specs.RoundTrips.{holding, drop_front, begin_front, operation_front, branch_front}
 
 -- what was read can be handed in as it is
-read_handed : (r : OperationRead) (o : Option (model.Operation × ℕ)) → Reads r o → handed r.operation ≡ some (operation_is r.operation)
-read_handed r o s = parts_handed r.operation s.code s.count s.formed
+read_handed : (r : flat.Operation × ℕ) (o : Option (model.Operation × ℕ)) → Reads (Some r) o → handed r.0 ≡ some (operation_is r.0)
+read_handed r o s = parts_handed r.0 s.parts.code s.parts.count s.parts.formed
 
 -- ---- what stands ahead
 
@@ -122,45 +123,52 @@ pub record Underway (body buffer : List ℕ) (at count later fill : ℕ) (out : 
   pub so_far : Filled body buffer fill out (to_come body at count ahead.next later)
 
 -- one operation more
-pub operation_turn : (body buffer : List ℕ) (at m later fill : ℕ) (out : List ℕ) (u : Underway body buffer at (suc m) later fill out) (r : OperationRead) → Reads r (operation_at body at)
-    → (a : Added) (next : List ℕ) → written_is a next ≡ add_operation out fill r.operation → Underway body buffer r.end m later a.fill next
+pub operation_turn : (body buffer : List ℕ) (at m later fill : ℕ) (out : List ℕ) (u : Underway body buffer at (suc m) later fill out) (r : flat.Operation × ℕ) → Reads (Some r) (operation_at body at)
+    → (a : Added) (next : List ℕ) → written_is a next ≡ add_operation out fill r.0 → Underway body buffer r.1 m later a.fill next
 unfolding hand_in
 operation_turn body buffer at m later fill out u r s a next w =
     let h = u.ahead in
     let n = read_next body at m h.operations r s in
-    let o : model.Operation = operation_is r.operation in
-    let ys : List (Addition model.Operation) = to_come body r.end m h.next later in
+    let o : model.Operation = operation_is r.0 in
+    let ys : List (Addition model.Operation) = to_come body r.1 m h.next later in
     let split : to_come body at (suc m) h.next later ≡ addition.operation o ∷ ys = ap (λ (os : List model.Operation). map addition.operation os ++ additions (branches_from body h.next later)) n.items in
     let f : Filled body buffer fill out (addition.operation o ∷ ys) = subst (λ (l : List (Addition model.Operation)). Filled body buffer fill out l) split u.so_far in
-    let called : add_operation out fill r.operation ≡ hand_in (holding buffer f.part) (addition.operation r.operation) = called_on buffer f.part fill out (λ l n. add_operation l n r.operation) f.filled f.bytes in
+    let called : add_operation out fill r.0 ≡ hand_in (holding buffer f.part) (addition.operation r.0) = called_on buffer f.part fill out (λ l n. add_operation l n r.0) f.filled f.bytes in
     record {
       ahead = record { within = n.within; operations = n.later; next = h.next; next_within = h.next_within; after = sym n.left ∙ h.after; branches = h.branches };
-      so_far = more body buffer fill out (addition.operation o) ys f a next (λ x y z. w ∙ called ∙ operation_front buffer f.part f.one r.operation o (read_handed r (operation_at body at) s) x y z);
+      so_far = more body buffer fill out (addition.operation o) ys f a next (λ x y z. w ∙ called ∙ operation_front buffer f.part f.one r.0 o (read_handed r (operation_at body at) s) x y z);
     }
 
+-- the guard of the next branch is there
+pub guard_there : (body buffer : List ℕ) (at m fill : ℕ) (out : List ℕ) → Underway body buffer at 0 (suc m) fill out → T (is_some (operation_at body at))
+guard_there body buffer at m fill out u = branch_there body at m (subst (λ (n : ℕ). Branches body n (suc m)) (next_here body at (suc m) u.ahead) u.ahead.branches)
+
 -- the next branch, of which the guard is read
-module _ (body buffer : List ℕ) (at m fill : ℕ) (out : List ℕ) (u : Underway body buffer at 0 (suc m) fill out) (r : OperationRead) (s : Reads r (operation_at body at)) where
+module _ (body buffer : List ℕ) (at m fill : ℕ) (out : List ℕ) (u : Underway body buffer at 0 (suc m) fill out) (r : flat.Operation × ℕ) (s : Reads (Some r) (operation_at body at)) where
   next_branch : ReadBranch body at m r
   next_branch = read_branch body at m (subst (λ (n : ℕ). Branches body n (suc m)) (next_here body at (suc m) u.ahead) u.ahead.branches) r s
 
   -- its operation count stands after its guard
-  pub guard_within : r.end < length body
+  pub guard_within : r.1 < length body
   guard_within = next_branch.0.long
 
+  pub guard_operations : Operations body (r.1 + count_width) (get_or body r.1 0)
+  guard_operations = next_branch.0.body
+
   -- one branch more: its operations are ahead
-  pub branch_turn : (a : Added) (next : List ℕ) → written_is a next ≡ add_branch out fill r.operation
-      → Underway body buffer (r.end + count_width) (get_or body r.end 0) m a.fill next
+  pub branch_turn : (a : Added) (next : List ℕ) → written_is a next ≡ add_branch out fill r.0
+      → Underway body buffer (r.1 + count_width) (get_or body r.1 0) m a.fill next
   unfolding additions hand_in
   branch_turn a next w =
-      let h : NextBranch body at m r.end = next_branch.0 in
+      let h : NextBranch body at m r.1 = next_branch.0 in
       let g : model.Operation = h.first.guard in
-      let ys : List (Addition model.Operation) = to_come body (r.end + count_width) (get_or body r.end 0) h.stop m in
-      let split : to_come body at 0 u.ahead.next (suc m) ≡ addition.branch g ∷ ys = branches_alone body at u.ahead.next (suc m) (next_here body at (suc m) u.ahead) ∙ ap additions h.items ∙ ap (λ (l : List (Addition model.Operation)). addition.branch g ∷ l) (sym (to_come_lem body at m r.end h)) in
+      let ys : List (Addition model.Operation) = to_come body (r.1 + count_width) (get_or body r.1 0) h.stop m in
+      let split : to_come body at 0 u.ahead.next (suc m) ≡ addition.branch g ∷ ys = branches_alone body at u.ahead.next (suc m) (next_here body at (suc m) u.ahead) ∙ ap additions h.items ∙ ap (λ (l : List (Addition model.Operation)). addition.branch g ∷ l) (sym (to_come_lem body at m r.1 h)) in
       let f : Filled body buffer fill out (addition.branch g ∷ ys) = subst (λ (l : List (Addition model.Operation)). Filled body buffer fill out l) split u.so_far in
-      let called : add_branch out fill r.operation ≡ hand_in (holding buffer f.part) (addition.branch r.operation) = called_on buffer f.part fill out (λ l n. add_branch l n r.operation) f.filled f.bytes in
+      let called : add_branch out fill r.0 ≡ hand_in (holding buffer f.part) (addition.branch r.0) = called_on buffer f.part fill out (λ l n. add_branch l n r.0) f.filled f.bytes in
       record {
-        ahead = branch_ahead body at m r.end h;
-        so_far = more body buffer fill out (addition.branch g) ys f a next (λ x y z. w ∙ called ∙ branch_front buffer f.part f.one r.operation g (read_handed r (operation_at body at) s ∙ ap some next_branch.1) x y z);
+        ahead = branch_ahead body at m r.1 h;
+        so_far = more body buffer fill out (addition.branch g) ys f a next (λ x y z. w ∙ called ∙ branch_front buffer f.part f.one r.0 g (read_handed r (operation_at body at) s ∙ ap some next_branch.1) x y z);
       }
 
 -- nothing is ahead: all was handed in
@@ -197,8 +205,8 @@ one_begun : (h p : ℕ) (g : model.Operation) → 1 ≤ length (begun h p g).bra
 unfolding begun
 one_begun h p g = omega arith
 
--- a legal body, of which the first guard is read: it stands after host, process and branch count
-module _ (body : List ℕ) (is-legal : T (legal_body body)) (r : OperationRead) (s : Reads r (operation_at body branches_at)) where
+-- a legal body, whose first guard stands after host, process and branch count
+module _ (body : List ℕ) (is-legal : T (legal_body body)) where
   abbrev whole : Statement
   whole = statement_of body
 
@@ -214,25 +222,36 @@ module _ (body : List ℕ) (is-legal : T (legal_body body)) (r : OperationRead) 
   abbrev stand : StandAs branch legal_branch body branches_at (get_or body branch_count_at 0) whole.branches []
   stand = body_branches body whole parts
 
-  first_branch : ReadBranch body branches_at others r
-  first_branch = read_branch body branches_at others (subst (λ (n : ℕ). Branches body branches_at n) count_is stand.stands) r s
+  ahead : Branches body branches_at (suc others)
+  ahead = subst (λ (n : ℕ). Branches body branches_at n) count_is stand.stands
 
-  pub first_within : r.end < length body
-  first_within = first_branch.0.long
+  pub first_there : T (is_some (operation_at body branches_at))
+  first_there = branch_there body branches_at others ahead
 
-  -- begun: the operations of the first branch are ahead
-  pub begin_turn : (buffer : List ℕ) → ((k : ℕ) → get_or body k 0 < 256) → length body ≤ length buffer → (host process : ℕ) → host ≡ get_or body host_at 0 → process ≡ number_at process_at process_width body → (a : Added) (next : List ℕ)
-      → written_is a next ≡ begin_on buffer host process r.operation → Underway body buffer (r.end + count_width) (get_or body r.end 0) others a.fill next
-  begin_turn buffer byte room host process eh ep a next w =
-      let h : NextBranch body branches_at others r.end = first_branch.0 in
-      let g : model.Operation = h.first.guard in
-      let is : BodyOf body whole = parse_parts body whole (bytes_of_lem body byte) (legal_parse body is-legal) in
-      let part : Statement = begun whole.host whole.process g in
-      let one : 1 ≤ length part.branches = one_begun whole.host whole.process g in
-      let split : whole.branches ≡ h.first ∷ branches_from body h.stop others = sym stand.items ∙ ap (branches_from body branches_at) count_is ∙ h.items in
-      let ys : List (Addition model.Operation) = to_come body (r.end + count_width) (get_or body r.end 0) h.stop others in
-      let grows : grow_all part ys ≡ whole = ap (grow_all part) (to_come_lem body branches_at others r.end h) ∙ grown_all whole h.first (branches_from body h.stop others) split in
-      let q = part_of body part whole ys is one grows in
-      let called : begin_on buffer host process r.operation ≡ begin_on buffer whole.host whole.process r.operation = λ i. begin_on buffer ((eh ∙ parts.host) i) ((ep ∙ parts.process) i) r.operation in
-      let l = left_by buffer part a next (w ∙ called ∙ begin_front buffer whole.host whole.process r.operation g (read_handed r (operation_at body branches_at) s ∙ ap some first_branch.1) q.0 (omega (arith, q.1))) in
-      record { ahead = branch_ahead body branches_at others r.end h; so_far = record { whole = whole; is = is; room = room; part = part; one = one; filled = l.0; bytes = l.1; grows = grows } }
+  -- it is read
+  module _ (r : flat.Operation × ℕ) (s : Reads (Some r) (operation_at body branches_at)) where
+    first_branch : ReadBranch body branches_at others r
+    first_branch = read_branch body branches_at others ahead r s
+
+    pub first_within : r.1 < length body
+    first_within = first_branch.0.long
+
+    pub first_operations : Operations body (r.1 + count_width) (get_or body r.1 0)
+    first_operations = first_branch.0.body
+
+    -- begun: the operations of the first branch are ahead
+    pub begin_turn : (buffer : List ℕ) → ((k : ℕ) → get_or body k 0 < 256) → length body ≤ length buffer → (host process : ℕ) → host ≡ get_or body host_at 0 → process ≡ number_at process_at process_width body → (a : Added) (next : List ℕ)
+        → written_is a next ≡ begin_on buffer host process r.0 → Underway body buffer (r.1 + count_width) (get_or body r.1 0) others a.fill next
+    begin_turn buffer byte room host process eh ep a next w =
+        let h : NextBranch body branches_at others r.1 = first_branch.0 in
+        let g : model.Operation = h.first.guard in
+        let is : BodyOf body whole = parse_parts body whole (bytes_of_lem body byte) (legal_parse body is-legal) in
+        let part : Statement = begun whole.host whole.process g in
+        let one : 1 ≤ length part.branches = one_begun whole.host whole.process g in
+        let split : whole.branches ≡ h.first ∷ branches_from body h.stop others = sym stand.items ∙ ap (branches_from body branches_at) count_is ∙ h.items in
+        let ys : List (Addition model.Operation) = to_come body (r.1 + count_width) (get_or body r.1 0) h.stop others in
+        let grows : grow_all part ys ≡ whole = ap (grow_all part) (to_come_lem body branches_at others r.1 h) ∙ grown_all whole h.first (branches_from body h.stop others) split in
+        let q = part_of body part whole ys is one grows in
+        let called : begin_on buffer host process r.0 ≡ begin_on buffer whole.host whole.process r.0 = λ i. begin_on buffer ((eh ∙ parts.host) i) ((ep ∙ parts.process) i) r.0 in
+        let l = left_by buffer part a next (w ∙ called ∙ begin_front buffer whole.host whole.process r.0 g (read_handed r (operation_at body branches_at) s ∙ ap some first_branch.1) q.0 (omega (arith, q.1))) in
+        record { ahead = branch_ahead body branches_at others r.1 h; so_far = record { whole = whole; is = is; room = room; part = part; one = one; filled = l.0; bytes = l.1; grows = grows } }

@@ -9,7 +9,6 @@ use Rattle.basis.specs.Sizes.{variables, most_reply}
 use Rattle.model.specs.Value.{Value, value}
 use Rattle.model.specs.Statement.{Statement}
 use Rattle.model.specs.Execution.{chosen, Executed, execute, attempt, tuples_after}
-use Rattle.walk.specs.Choosing.{Chooses, nothing, chosen_at}
 use Rattle.walk.specs.declared.Choice.{Choice}
 use Rattle.model.specs.Run.{Run, with_tuples, Reply, outcome_of, values_of, ran_reply}
 use Rattle.layout.specs.Replies.{replies_bytes}
@@ -58,21 +57,12 @@ reply_is p h q outcome branch vs st e eh eq eo eb ev = λ i. record { position =
 -- a branch was chosen, so one runs
 pub picked_runs : (s : Run) (body : List ℕ) (c : Choice) → Picked s body c → attempt s.tuples (statement_of body) ≡ none → ⊥
 unfolding attempt
-picked_runs s body c (k, z) e = go c.branch c.at c.tuple k z e
-  where
-    go : (n at tuple : ℕ) → Chooses body s.tuples (chosen s.tuples (statement_of body)) n at tuple → (n ≡ 0 → ⊥) → map (execute s.tuples) (chosen s.tuples (statement_of body)) ≡ none → ⊥
-    go n place j (nothing e) z q = z refl
-    go n place j (chosen_at {i} {at} {tuple} {br} e k f) z q = none-ne-some (execute s.tuples (record { index = i; item = br })) (sym q ∙ ap (map (execute s.tuples)) e)
+picked_runs s body c k e = none-ne-some (execute s.tuples (record { index = k.index; item = k.item })) (sym e ∙ ap (map (execute s.tuples)) k.is)
 
 -- no guard holds
-pub run_none : (s : Run) (p : ℕ) (st : Statement) (state body out : List ℕ) (branch at tuple : ℕ) → Stored state s → Chooses body s.tuples (chosen s.tuples st) branch at tuple → branch ≡ 0 → Turned (executed s p st) out state out 0
+pub run_none : (s : Run) (p : ℕ) (st : Statement) (state out : List ℕ) → Stored state s → chosen s.tuples st ≡ none → Turned (executed s p st) out state out 0
 unfolding executed attempt
-run_none s p st state body out branch at tuple h c z = go branch at tuple c z
-  where
-    go : (n at tuple : ℕ) → Chooses body s.tuples (chosen s.tuples st) n at tuple → n ≡ 0
-        → Turned (maybe (map (execute s.tuples) (chosen s.tuples st)) (still s) (λ e. record { run = with_tuples s (tuples_after s.tuples e.result); replies = ran_reply p st e ∷ [] })) out state out 0
-    go n at tuple (nothing e) z = rw e (turned_still s state out h)
-    go n at tuple (chosen_at e k f) z = absurd (omega arith)
+run_none s p st state out h e = rw e (turned_still s state out h)
 
 module _ (s : Run) (p : ℕ) (st : Statement) (state : List ℕ) (branch outcome : ℕ) (vs : List (ℕ × Value)) where
   -- it ran, and is answered

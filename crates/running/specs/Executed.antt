@@ -9,7 +9,7 @@ use Rattle.model.specs.Legal.{legal_body}
 use Rattle.model.specs.Execution.{chosen, Executed, attempt, tuples_after}
 use Rattle.model.specs.Run.{Run, with_tuples, is_open, outcome_of, values_of, ran_reply, Turn}
 use Rattle.layout.specs.Stored.{Stored, statement_of}
-use Rattle.walk.specs.Choosing.{Chooses}
+use Rattle.walk.specs.Choosing.{Picks}
 use Rattle.walk.specs.declared.Choice.{Choice}
 
 -- no turn: the run as it is, and no reply
@@ -27,7 +27,7 @@ executed s p st = maybe (attempt s.tuples st) (still s) (λ e. record { run = wi
 
 -- a branch of it was chosen on the tuples of a run
 abbrev pub Picked : Run → (body : List ℕ) → Choice → Type 0
-Picked s body c = Chooses body s.tuples (chosen s.tuples (statement_of body)) c.branch c.at c.tuple × (c.branch ≡ 0 → ⊥)
+Picked s body c = Picks body s.tuples (chosen s.tuples (statement_of body)) c
 
 -- what a statement's attempt left in a state, and what it is answered with
 pub record Left (s : Run) (o : Option Executed) (state : List ℕ) (branch outcome : ℕ) (values : List (ℕ × Value)) : Type 0 where

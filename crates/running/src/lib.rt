@@ -59,10 +59,10 @@ pub fn run_chosen(
     )
 }
 
-// The branch of a statement that its guards choose on the tuples of a state.
-fn choose_in(state: &[u8], body: &[u8]) -> Choice
+// The branch of a statement that its guards choose on the tuples of a state, if any holds.
+fn choose_in(state: &[u8], body: &[u8]) -> Option<Choice>
     requires { IsStored state.now × T (legal_body body.now) }
-    ensures { Chooses body.now (decode state.now).tuples (chosen (decode state.now).tuples (statement_of body.now)) result.branch result.at result.tuple }
+    ensures { Chooses body.now (decode state.now).tuples (chosen (decode state.now).tuples (statement_of body.now)) result }
 {
     let n = header::tuple_count(state);
     guards::search(&state[words::TUPLES_AT..words::TUPLES_END], n, body)
@@ -73,9 +73,8 @@ pub fn run_body(state: &mut [u8], position: u32, body: &[u8], out: &mut [u8]) ->
     requires { IsStored state.old × MayRun (decode state.old) body.now × (most_reply ≤ length out.old) }
     ensures { Turned (executed (decode state.old) position (statement_of body.now)) out.old state.new out.new result × (result ≤ most_reply) }
 {
-    let choice = choose_in(state, body);
-    if choice.branch == 0 {
+    let Some(choice) = choose_in(state, body) else {
         return 0;
-    }
+    };
     run_chosen(state, position, body, choice, out)
 }

@@ -1,8 +1,10 @@
 -- Readers at a position of some bytes: what is read from there on, and the position after it. Assumes nothing.
-use Rattle.std.specs.Prelude.{◌≡◌, refl, ℕ, zero, suc, ◌+◌, ◌-◌, ◌≤◌, ◌<◌, Bool, true, false, ◌⊎◌, List, [], ◌∷◌, length, drop, leb}
+use Rattle.std.specs.Prelude.{◌≡◌, refl, ℕ, zero, suc, ◌+◌, ◌-◌, ◌≤◌, ◌<◌, Bool, true, false, ◌⊎◌, List, [], ◌∷◌, length, drop, leb, T, IsSome}
+use Rattle.std.specs.Prelude as code
+use Rattle.std.specs.Prelude.{None, Some}
 use Rattle.std.proofs.Common.{sym, ap, ◌∙◌, arith, inl, inr, length-drop, drop_of_length-le, drop-drop, leb-true, leb-false}
 use Rattle.std.proofs.Math.Option.{Option, none, some, some-injective, none-ne-some}
-use Rattle.basis.specs.Choice.{maybe, provided}
+use Rattle.basis.specs.Choice.{maybe, is_some, provided}
 use Rattle.model.specs.Reading.{Reader, ◌>>=◌, give, refuse, byte, several, counted}
 use Rattle.model.proofs.ReadBack.{then_some}
 
@@ -23,25 +25,16 @@ passed ok o = maybe o none (λ r. provided (ok r.0) r)
 unfoldable pub ended : {A : Type 0} → Option (A × ℕ) → Option ℕ
 ended o = maybe o none (λ r. some r.1)
 
--- what a function found, with the position after it; position 0: nothing
-unfoldable pub found : {A : Type 0} → ℕ → A → Option (A × ℕ)
-found zero a = none
-found (suc end) a = some (a, suc end)
+-- what the code read, with the position after it, as the definitions have it
+abbrev pub read_as : {A B : Type 0} → (A → B) → code.Option (A × ℕ) → Option (B × ℕ)
+read_as is None = none
+read_as is (Some r) = some (is r.0, r.1)
 
--- a position, 0: there is none
-unfoldable pub position : ℕ → Option ℕ
-position zero = none
-position (suc end) = some (suc end)
-
-pub found_some : {A : Type 0} (end : ℕ) (a : A) → 0 < end → found end a ≡ some (a, end)
-unfolding found
-found_some zero a h = absurd (omega arith)
-found_some (suc end) a h = refl
-
-pub found_none : {A : Type 0} (end : ℕ) (a : A) → end ≡ 0 → found end a ≡ none
-unfolding found
-found_none zero a h = refl
-found_none (suc end) a h = absurd (omega arith)
+-- what is there is read
+pub some_read : {A B : Type 0} (is : A → B) (r : code.Option (A × ℕ)) (o : Option (B × ℕ)) → read_as is r ≡ o → T (is_some o) → IsSome r
+unfolding is_some
+some_read is None o e t = absurd (rw (← e) at t)
+some_read is (Some r) o e t = refl
 
 -- ---- what is left is a last part
 

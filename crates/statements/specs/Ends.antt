@@ -1,11 +1,11 @@
 -- The position after what is read and passes a test: of one thing, and of several. Assumes nothing.
-use Rattle.std.specs.Prelude.{◌≡◌, refl, ℕ, zero, suc, ◌+◌, ◌-◌, ◌≤◌, ◌<◌, Bool, true, false, ◌&&◌, cond, List, [], ◌∷◌, length, drop}
+use Rattle.std.specs.Prelude.{◌≡◌, refl, ℕ, suc, ◌+◌, ◌-◌, ◌≤◌, ◌<◌, Bool, true, false, ◌&&◌, cond, List, [], ◌∷◌, length, drop}
 use Rattle.std.proofs.Common.{sym, ap, ◌∙◌, arith, length-drop}
 use Rattle.std.proofs.Math.Option.{Option, none, some, some-injective, none-ne-some}
 use Rattle.basis.specs.Choice.{maybe, provided}
 use Rattle.basis.specs.Lists.{all}
 use Rattle.model.specs.Reading.{Reader, ◌>>=◌, give, several}
-use Rattle.statements.specs.At.{placed, read_at, passed, ended, position, Suffix, suffix_at}
+use Rattle.statements.specs.At.{placed, read_at, passed, ended, Suffix, suffix_at}
 
 -- the position after what is read and passes a test
 unfoldable pub end_at : {A : Type 0} → Reader A → (A → Bool) → List ℕ → ℕ → Option ℕ
@@ -90,22 +90,6 @@ ends_done p ok b at e h =
     let n : length b - length (drop at b) ≡ at = omega (arith, length-drop at b) in
     end_of_lem (several p 0) ok b at ∙ rw (e, n)
 
-pub position_some : (end : ℕ) → 0 < end → position end ≡ some end
-unfolding position
-position_some zero h = absurd (omega arith)
-position_some (suc end) h = refl
-
-pub position_none : (end : ℕ) → end ≡ 0 → position end ≡ none
-unfolding position
-position_none zero h = refl
-position_none (suc end) h = absurd (omega arith)
-
--- the one position that was found
-pub position_is : (end at : ℕ) → position end ≡ some at → end ≡ at
-unfolding position
-position_is zero at e = absurd (none-ne-some at e)
-position_is (suc end) at e = some-injective (suc end) at e
-
 -- such a position is within the bytes
 pub end_within : {A : Type 0} (p : Reader A) (ok : A → Bool) (b : List ℕ) (at end : ℕ) → end_at p ok b at ≡ some end → end ≤ length b
 unfolding provided
@@ -124,13 +108,11 @@ end_within {A} p ok b at end e = go (p (drop at b)) (sym (end_of_lem p ok b at) 
 -- i of so many things were passed, up to a position, and a test of the others decides
 pub record Passing {A : Type 0} (p : Reader A) (ok now : List A → Bool) (b : List ℕ) (at count end i : ℕ) : Type 0 where
   pub few : i ≤ count
-  pub past : 0 < end
   pub within : end ≤ length b
   pub rest : end_at (several p count) ok b at ≡ end_at (several p (count - i)) now b end
 
 -- one more is passed, up to an end, and a test of those after it decides
 pub record Passes {A : Type 0} (p : Reader A) (now later : List A → Bool) (b : List ℕ) (at end : ℕ) : Type 0 where
-  pub past : 0 < end
   pub within : end ≤ length b
   pub rest : (m : ℕ) → end_at (several p (suc m)) now b at ≡ end_at (several p m) later b end
 
@@ -138,30 +120,28 @@ pub record Passes {A : Type 0} (p : Reader A) (now later : List A → Bool) (b :
 abbrev pub Stops : {A : Type 0} → Reader A → (List A → Bool) → List ℕ → ℕ → Type 0
 Stops p now b at = (m : ℕ) → end_at (several p (suc m)) now b at ≡ none
 
-pub passing_start : {A : Type 0} (p : Reader A) (ok : List A → Bool) (b : List ℕ) (at count : ℕ) → 0 < at → at ≤ length b → Passing p ok ok b at count at 0
-passing_start p ok b at count h l = let e : count - 0 ≡ count = omega arith in record { few = omega arith; past = h; within = l; rest = rw e }
+pub passing_start : {A : Type 0} (p : Reader A) (ok : List A → Bool) (b : List ℕ) (at count : ℕ) → at ≤ length b → Passing p ok ok b at count at 0
+passing_start p ok b at count l = let e : count - 0 ≡ count = omega arith in record { few = omega arith; within = l; rest = rw e }
 
 module _ {A : Type 0} (p : Reader A) (ok now : List A → Bool) (b : List ℕ) (at count end i : ℕ) (w : Passing p ok now b at count end i) where
   pub passing_turn : (later : List A → Bool) (next : ℕ) → i < count → Passes p now later b end next → Passing p ok later b at count next (i + 1)
   passing_turn later next h k =
       let m : count - i ≡ suc (count - (i + 1)) = omega arith in
-      record { few = omega arith; past = k.past; within = k.within; rest = w.rest ∙ rw m (k.rest (count - (i + 1))) }
+      record { few = omega arith; within = k.within; rest = w.rest ∙ rw m (k.rest (count - (i + 1))) }
 
-  pub passing_stop : i < count → Stops p now b end → position 0 ≡ end_at (several p count) ok b at
-  passing_stop h k = let m : count - i ≡ suc (count - (i + 1)) = omega arith in position_none 0 refl ∙ sym (w.rest ∙ rw m (k (count - (i + 1))))
+  pub passing_stop : i < count → Stops p now b end → none ≡ end_at (several p count) ok b at
+  passing_stop h k = let m : count - i ≡ suc (count - (i + 1)) = omega arith in sym (w.rest ∙ rw m (k (count - (i + 1))))
 
-  pub passing_done : count ≤ i → now [] ≡ true → position end ≡ end_at (several p count) ok b at
-  passing_done h e = let z : count - i ≡ 0 = omega arith in position_some end w.past ∙ sym (w.rest ∙ rw z (ends_done p now b end e w.within))
+  pub passing_done : count ≤ i → now [] ≡ true → some end ≡ end_at (several p count) ok b at
+  passing_done h e = let z : count - i ≡ 0 = omega arith in sym (w.rest ∙ rw z (ends_done p now b end e w.within))
 
 -- where each passes the same test
-module _ {A : Type 0} (p : Reader A) (sf : Suffix p) (ok : A → Bool) (b : List ℕ) (at end : ℕ) (e : position end ≡ end_at p ok b at) where
-  pub one_passes : (end ≡ 0 → ⊥) → Passes p (all ok) (all ok) b at end
-  one_passes n =
-      let s : end_at p ok b at ≡ some end = sym e ∙ position_some end (omega (arith, n)) in
-      record { past = omega (arith, n); within = end_within p ok b at end s; rest = λ m. ends_turn p sf ok m b at ∙ rw s }
+module _ {A : Type 0} (p : Reader A) (sf : Suffix p) (ok : A → Bool) (b : List ℕ) (at : ℕ) where
+  pub one_passes : (end : ℕ) → some end ≡ end_at p ok b at → Passes p (all ok) (all ok) b at end
+  one_passes end e = record { within = end_within p ok b at end (sym e); rest = λ m. ends_turn p sf ok m b at ∙ rw (← e) }
 
-  pub one_stops : end ≡ 0 → Stops p (all ok) b at
-  one_stops n m = let s : end_at p ok b at ≡ none = sym e ∙ position_none end n in ends_turn p sf ok m b at ∙ rw s
+  pub one_stops : none ≡ end_at p ok b at → Stops p (all ok) b at
+  one_stops e m = ends_turn p sf ok m b at ∙ rw (← e)
 
 pub all_none : {A : Type 0} (ok : A → Bool) → all ok [] ≡ true
 unfolding all

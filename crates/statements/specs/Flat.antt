@@ -1,6 +1,6 @@
 -- What the flat structs are: a field by its form, an operation by its code, with its first `count` fields. Assumes nothing.
-use Rattle.std.specs.Prelude.{◌≡◌, ℕ, ◌≤◌, ◌<◌, Bool, true, false, List, [], ◌∷◌, map, length, take, get_or, T, leb, ltb}
-use Rattle.std.proofs.Common.{◌∙◌}
+use Rattle.std.specs.Prelude as code
+use Rattle.std.specs.Prelude.{◌≡◌, ℕ, ◌≤◌, ◌<◌, Bool, true, false, List, [], ◌∷◌, map, length, take, get_or, T, leb, ltb, IfSome}
 use Rattle.std.proofs.Math.Option.{Option}
 use Rattle.basis.specs.Lists.{all}
 use Rattle.basis.specs.Sizes.{most_fields}
@@ -9,12 +9,9 @@ use Rattle.model.specs.Statement as model
 use Rattle.model.specs.Statement.{actual, formal, reference, sum, difference, anonymous, ranged, always, lookup, deposit, transfer}
 use Rattle.model.specs.Legal.{fields_of}
 use Rattle.model.specs.Reading.{operation}
-use Rattle.statements.specs.At.{read_at, passed, found}
+use Rattle.statements.specs.At.{read_at, passed, read_as}
 use Rattle.statements.specs.declared.Field.{Field}
-use Rattle.statements.specs.declared.FieldRead.{FieldRead}
-use Rattle.statements.specs.declared.FieldsRead.{FieldsRead}
 use Rattle.statements.specs.declared.Operation.{Operation}
-use Rattle.statements.specs.declared.OperationRead.{OperationRead}
 
 -- "Codes: 0 true .. 7 copy"
 abbrev pub codes : ℕ
@@ -55,22 +52,26 @@ operation_of code from to fs =
 unfoldable pub operation_is : Operation → model.Operation
 operation_is o = operation_of o.code o.from o.to (fields_are (take o.count o.fields))
 
--- what a function read, and the position after it; end 0: there is none
-unfoldable pub field_read : FieldRead → Option (model.Field × ℕ)
-field_read r = found r.end (field_is r.field)
+-- what the code read, and the position after it
+abbrev pub field_read : code.Option (Field × ℕ) → Option (model.Field × ℕ)
+field_read r = read_as field_is r
 
-unfoldable pub fields_read : ℕ → FieldsRead → Option (List model.Field × ℕ)
-fields_read n r = found r.end (fields_are (take n r.fields))
+abbrev pub fields_read : ℕ → code.Option (List Field × ℕ) → Option (List model.Field × ℕ)
+fields_read n r = read_as (λ fs. fields_are (take n fs)) r
 
-unfoldable pub read_is : OperationRead → Option (model.Operation × ℕ)
-read_is r = found r.end (operation_is r.operation)
+abbrev pub read_is : code.Option (Operation × ℕ) → Option (model.Operation × ℕ)
+read_is r = read_as operation_is r
 
--- an operation was read so: its parts have one of the eight codes, and at most as many fields as there is room for, of the seven forms
-pub record Reads (r : OperationRead) (o : Option (model.Operation × ℕ)) : Type 0 where
+-- one of the eight codes, and at most as many fields as there is room for, of the seven forms
+pub record Formed (o : Operation) : Type 0 where
+  pub code : o.code < codes
+  pub count : o.count ≤ most_fields
+  pub formed : T (all has_form (take o.count o.fields))
+
+-- an operation was read so, or there is none
+pub record Reads (r : code.Option (Operation × ℕ)) (o : Option (model.Operation × ℕ)) : Type 0 where
   pub is : read_is r ≡ o
-  pub code : r.operation.code < codes
-  pub count : r.operation.count ≤ most_fields
-  pub formed : T (all has_form (take r.operation.count r.operation.fields))
+  pub parts : IfSome r (λ x. Formed x.0)
 
 -- at most as many fields as a tuple has values
 unfoldable pub few_fields : model.Operation → Bool
@@ -79,11 +80,3 @@ few_fields o = leb (length (fields_of o)) most_fields
 -- the operation at a position, and the position after it
 unfoldable pub operation_at : List ℕ → ℕ → Option (model.Operation × ℕ)
 operation_at b at = passed few_fields (read_at operation b at)
-
--- an operation with no field
-pub none_formed : (o : Operation) → o.count ≡ 0 → T (all has_form (take o.count o.fields))
-unfolding all
-none_formed o e = rw e tt
-
-pub reads_as : (r : OperationRead) (o same : Option (model.Operation × ℕ)) → Reads r o → o ≡ same → Reads r same
-reads_as r o same h e = record { is = h.is ∙ e; code = h.code; count = h.count; formed = h.formed }

@@ -1,19 +1,18 @@
 -- Several things one after the other: what is read so far, then the rest. Assumes nothing.
-use Rattle.std.specs.Prelude.{◌≡◌, refl, ℕ, zero, suc, ◌+◌, ◌-◌, ◌≤◌, ◌<◌, Bool, List, [], ◌∷◌, ◌++◌, length, take, drop, set, get_or, replicate, T}
+use Rattle.std.specs.Prelude.{◌≡◌, refl, ℕ, zero, suc, ◌+◌, ◌-◌, ◌≤◌, ◌<◌, Bool, List, [], ◌∷◌, ◌++◌, length, take, drop, set, replicate, T}
 use Rattle.std.proofs.Common.{sym, ap, ◌∙◌, arith, add-one, append_assoc, append-nil, length-set, take-suc-set}
 use Rattle.std.proofs.Math.Option.{Option, none, some, some-injective, none-ne-some}
-use Rattle.std.proofs.lemmas.List.{map-append}
+use Rattle.std.proofs.lemmas.List.{map-append, length-take-le, take-append-le}
 use Rattle.basis.specs.Choice.{maybe}
 use Rattle.basis.specs.Logic.{and_l, and_r, both}
 use Rattle.basis.specs.Lists.{all}
-use Rattle.basis.specs.Sizes.{most_fields}
+use Rattle.words.specs.ZeroLaws.{all_append}
 use Rattle.model.specs.Statement as model
 use Rattle.model.specs.Reading.{Reader, ◌>>=◌, give, several, field}
-use Rattle.statements.specs.At.{Suffix, read_at, found_some, found_none, read_at_some, read_at_none, some_read_at, none_read_at}
-use Rattle.statements.specs.Fields.{FieldAt, absent, present, field_at_lem, field_there, width_of}
-use Rattle.statements.specs.Flat.{has_form, field_is, fields_are, field_read, fields_read}
+use Rattle.statements.specs.At.{Suffix, read_at, read_at_some, read_at_none, some_read_at, none_read_at}
+use Rattle.statements.specs.Fields.{FieldAt, absent, present, field_at_lem, field_there}
+use Rattle.statements.specs.Flat.{has_form, field_is, fields_are}
 use Rattle.statements.specs.declared.Field.{Field}
-use Rattle.statements.specs.declared.FieldRead.{FieldRead}
 
 -- what was read before, and what is read now
 unfoldable pub prepend : {A : Type 0} → List A → Option (List A × List ℕ) → Option (List A × List ℕ)
@@ -67,32 +66,44 @@ all_take p zero l t = tt
 all_take p (suc n) [] t = tt
 all_take p (suc n) (a ∷ l) t = both (p a) (all p (take n l)) (and_l (p a) (all p l) t) (all_take p n l (and_r (p a) (all p l) t))
 
+pub all_drop : {A : Type 0} (p : A → Bool) (n : ℕ) (l : List A) → T (all p l) → T (all p (drop n l))
+unfolding all
+all_drop p zero l t = t
+all_drop p (suc n) [] t = tt
+all_drop p (suc n) (a ∷ l) t = all_drop p n l (and_r (p a) (all p l) t)
+
+all_join : {A : Type 0} (p : A → Bool) (l k : List A) → T (all p l) → T (all p k) → T (all p (l ++ k))
+all_join p l k t u = rw (all_append p l k) (both (all p l) (all p k) t u)
+
 -- ---- fields
+
+-- a field that lacks every part has a form
+pub blank_form : (f : Field) → f.form ≡ 0 → T (has_form f)
+unfolding has_form
+blank_form f e = rw e tt
 
 pub suffix_field : Suffix field
 suffix_field s rest a e = go (field_at_lem s 0)
   where
     go : FieldAt s 0 → (k : ℕ) × (rest ≡ drop k s)
     go (absent n f) = absurd (none-ne-some (a, rest) (sym f ∙ e))
-    go (present h) = (0 + width_of (get_or s 0 0), ap (λ (r : model.Field × List ℕ). r.1) (sym (some-injective _ (a, rest) (sym (field_there s 0 h.form h.fits) ∙ e))))
+    go (present h) = (0 + h.width, ap (λ (r : model.Field × List ℕ). r.1) (sym (some-injective _ (a, rest) (sym (field_there s 0 h) ∙ e))))
 
--- i of so many fields are read, up to a position; all have one of the seven forms
+-- i of so many fields are read, up to a position; each place holds one of the seven forms
 pub record Underway (b : List ℕ) (at count : ℕ) (fields : List Field) (end i : ℕ) : Type 0 where
   pub few : i ≤ count
-  pub past : 0 < end
   pub within : end ≤ length b
-  pub room : length fields ≡ most_fields
+  pub room : length fields ≡ count
   pub formed : T (all has_form fields)
   pub rest : several field count (drop at b) ≡ prepend (fields_are (take i fields)) (several field (count - i) (drop end b))
 
-pub fields_start : (b : List ℕ) (at count : ℕ) (fields : List Field) → 0 < at → at ≤ length b → length fields ≡ most_fields → T (all has_form fields) → Underway b at count fields at 0
+pub fields_start : (b : List ℕ) (at count : ℕ) (blank : List Field) → at ≤ length b → count ≤ length blank → T (all has_form blank) → Underway b at count (take count blank) at 0
 unfolding fields_are
-fields_start b at count fields h l r t = record {
+fields_start b at count blank l r t = record {
   few = omega arith;
-  past = h;
   within = l;
-  room = r;
-  formed = t;
+  room = length-take-le count blank r;
+  formed = all_take has_form count blank t;
   rest = let e : count - 0 ≡ count = omega arith in rw e (several_start field count (drop at b));
 }
 
@@ -101,34 +112,30 @@ fields_set : (fields : List Field) (i : ℕ) (f : Field) → i < length fields �
 unfolding fields_are
 fields_set fields i f h = rw (add-one i, take-suc-set fields i f h) (map-append field_is (take i fields) (f ∷ []))
 
-pub fields_turn : (b : List ℕ) (at count : ℕ) (fields : List Field) (end i : ℕ) (r : FieldRead) → count ≤ most_fields → i < count → Underway b at count fields end i
-    → field_read r ≡ read_at field b end → T (has_form r.field) → (r.end ≡ 0 → ⊥) → Underway b at count (set fields i r.field) r.end (i + 1)
-unfolding field_read
-fields_turn b at count fields end i r few h u e t n =
-    let k = read_at_some field suffix_field b end (field_is r.field) r.end (sym e ∙ found_some r.end (field_is r.field) (omega (arith, n))) in
+pub fields_turn : (b : List ℕ) (at count : ℕ) (fields : List Field) (end i : ℕ) (r : Field × ℕ) → i < count → Underway b at count fields end i
+    → some (field_is r.0, r.1) ≡ read_at field b end → T (has_form r.0) → Underway b at count (set fields i r.0) r.1 (i + 1)
+fields_turn b at count fields end i r h u e t =
+    let k = read_at_some field suffix_field b end (field_is r.0) r.1 (sym e) in
     let m : count - i ≡ suc (count - (i + 1)) = omega arith in
     record {
       few = omega arith;
-      past = omega (arith, n);
       within = k.within;
-      room = length-set fields i r.field ∙ u.room;
-      formed = all_set has_form fields i r.field u.formed t;
-      rest = rw (fields_set fields i r.field (omega (arith, u.room))) (u.rest ∙ rw m (several_turn field (fields_are (take i fields)) (count - (i + 1)) (drop end b) (drop r.end b) (field_is r.field) k.reads));
+      room = length-set fields i r.0 ∙ u.room;
+      formed = all_set has_form fields i r.0 u.formed t;
+      rest = rw (fields_set fields i r.0 (omega (arith, u.room))) (u.rest ∙ rw m (several_turn field (fields_are (take i fields)) (count - (i + 1)) (drop end b) (drop r.1 b) (field_is r.0) k.reads));
     }
 
-pub fields_stop : (b : List ℕ) (at count : ℕ) (fields left : List Field) (end i : ℕ) (r : FieldRead) → i < count → Underway b at count fields end i
-    → field_read r ≡ read_at field b end → r.end ≡ 0 → fields_read count (record { end = 0; fields = left }) ≡ read_at (several field count) b at
-unfolding field_read fields_read
-fields_stop b at count fields left end i r h u e z =
+pub fields_stop : (b : List ℕ) (at count : ℕ) (fields : List Field) (end i : ℕ) → i < count → Underway b at count fields end i → none ≡ read_at field b end → none ≡ read_at (several field count) b at
+fields_stop b at count fields end i h u e =
     let m : count - i ≡ suc (count - (i + 1)) = omega arith in
-    let k : field (drop end b) ≡ none = read_at_none field b end (sym e ∙ found_none r.end (field_is r.field) z) in
-    found_none 0 _ refl ∙ sym (none_read_at (several field count) b at (u.rest ∙ rw m (several_stop field (fields_are (take i fields)) (count - (i + 1)) (drop end b) k)))
+    let k : field (drop end b) ≡ none = read_at_none field b end (sym e) in
+    sym (none_read_at (several field count) b at (u.rest ∙ rw m (several_stop field (fields_are (take i fields)) (count - (i + 1)) (drop end b) k)))
 
-pub fields_done : (b : List ℕ) (at count : ℕ) (fields : List Field) (end i : ℕ) → count ≤ i → Underway b at count fields end i
-    → fields_read count (record { end = end; fields = fields }) ≡ read_at (several field count) b at
-unfolding fields_read
-fields_done b at count fields end i h u =
+pub fields_done : (b : List ℕ) (at count : ℕ) (fields left : List Field) (end i : ℕ) → count ≤ i → Underway b at count fields end i → T (all has_form left)
+    → (some (fields_are (take count (fields ++ left)), end) ≡ read_at (several field count) b at) × T (all has_form (fields ++ left))
+fields_done b at count fields left end i h u t =
     let same : i ≡ count = omega arith in
     let z : count - i ≡ 0 = omega arith in
+    let few : take count (fields ++ left) ≡ take count fields = take-append-le count fields left (omega (arith, u.room)) in
     let all : several field count (drop at b) ≡ some (fields_are (take count fields), drop end b) = rw (z, same) at u.rest ∙ several_done field (fields_are (take count fields)) (drop end b) in
-    found_some end (fields_are (take count fields)) u.past ∙ sym (some_read_at (several field count) b at (fields_are (take count fields)) end all u.within)
+    (rw few (sym (some_read_at (several field count) b at (fields_are (take count fields)) end all u.within)), all_join has_form fields left u.formed t)

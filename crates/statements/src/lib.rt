@@ -1,19 +1,18 @@
 // Reading the operations of an AG record's body.
 #![tactic(auto)]
 
-ghost use Rattle.std.specs.Prelude.{◌≡◌, ℕ, ◌+◌, ◌≤◌, ◌<◌, List, length, get_or, T};
-ghost use Rattle.std.proofs.Math.Option.{none};
-ghost use Rattle.model.specs.Statement.{binder_of, always};
-ghost use Rattle.basis.specs.Choice.{provided};
+ghost use Rattle.std.specs.Prelude.{◌≡◌, ◌+◌, ◌≤◌, ◌<◌, length, get_or, T, IfSome, Some};
+ghost use Rattle.model.specs.Statement.{binder_of};
+ghost use Rattle.basis.specs.Choice.{given, is_some, provided};
 ghost use Rattle.basis.specs.Lists.{all};
 ghost use Rattle.basis.specs.Sizes.{space_width, most_fields, spaces_width};
 ghost use Rattle.model.specs.Reading.{field, several};
-ghost use Rattle.statements.specs.At.{read_at, passed, ended, position};
-ghost use Rattle.statements.specs.Flat.{codes, has_form, field_is, field_read, fields_read, operation_is, Reads, few_fields, operation_at};
+ghost use Rattle.statements.specs.At.{read_at, passed, ended};
+ghost use Rattle.statements.specs.Flat.{codes, has_form, field_is, field_read, fields_read, Reads, few_fields, operation_at};
 ghost use Rattle.statements.specs.Front.{Fronts, bare_at, bare_is};
 ghost use Rattle.statements.specs.Operations.{after_code, named_width, second_space};
 ghost use Rattle.statements.specs.Binds.{binder_in};
-ghost use Rattle.statements.specs.Fields.{width_of, field_parts, field_end};
+ghost use Rattle.statements.specs.Fields.{width_of, FieldStands, field_parts, field_end};
 
 use words::{
     ACTUAL, ANONYMOUS, CODE_WIDTH, COUNT_WIDTH, FORM_WIDTH, FORMAL, HIGHEST_AT, KIND_WIDTH,
@@ -34,7 +33,7 @@ pub const FORMS: u8 = 7;
 
 // A field: its form, and the kind, variable and four bytes of a value that the form has, of form 6 the lowest and the highest; parts that it lacks are 0.
 #[repr(C)]
-#[derive(Clone, Copy)]
+#[derive(Clone, Copy, Default)]
 pub struct Field {
     pub form: u8,
     pub kind: u8,
@@ -47,24 +46,7 @@ pub struct Field {
 pub fn binds(f: Field) -> bool
     ensures { provided result (binder_in f) ≡ binder_of (field_is f) }
 {
-    if f.form == 1 {
-        return true;
-    }
-    6 <= f.form
-}
-
-// A field that was read, and the position after it; 0: there is none.
-#[derive(Clone, Copy)]
-pub struct FieldRead {
-    pub end: usize,
-    pub field: Field,
-}
-
-// Fields that were read, and the position after them; 0: there are none.
-#[derive(Clone, Copy)]
-pub struct FieldsRead {
-    pub end: usize,
-    pub fields: [Field; MOST_FIELDS],
+    f.form == 1 || 6 <= f.form
 }
 
 // An operation: its code, spaces and first `count` fields; parts that it lacks are 0.
@@ -78,173 +60,109 @@ pub struct Operation {
     pub fields: [Field; MOST_FIELDS],
 }
 
-// An operation that was read, and the position after it; 0: there is none.
-#[derive(Clone, Copy)]
-pub struct OperationRead {
-    pub end: usize,
-    pub operation: Operation,
-}
-
-// A field of a form that has no highest value.
-fn plain(form: u8, kind: u8, variable: u8, bits: u32) -> Field
-    ensures { result ≡ record { form = form; kind = kind; variable = variable; bits = bits; highest = 0 } }
-{
-    Field {
-        form,
-        kind,
-        variable,
-        bits,
-        highest: 0,
-    }
-}
-
-// A field with no part.
-fn no_field() -> Field
-    ensures { T (has_form result) }
-{
-    plain(0, 0, 0, 0)
-}
-
-// The bytes of a field of a form, its form byte included; 0: there is no such form.
-fn field_width(form: u8) -> usize
-    ensures { result ≡ width_of form }
+// The bytes of a field of a form, its form byte included, if there is such a form.
+fn field_width(form: u8) -> Option<usize>
+    ensures { given result ≡ width_of form }
 {
     match form {
-        0 => ACTUAL,
-        1 => FORMAL,
-        2 => REFERENCE,
-        3 | 4 => SUM,
-        5 => ANONYMOUS,
-        6 => RANGE,
-        _ => 0,
+        0 => Some(ACTUAL),
+        1 => Some(FORMAL),
+        2 => Some(REFERENCE),
+        3 | 4 => Some(SUM),
+        5 => Some(ANONYMOUS),
+        6 => Some(RANGE),
+        _ => None,
     }
 }
 
-// The position after the field at a position; 0: there is none.
-fn field_end(b: &[u8], at: usize) -> usize
-    ensures { result ≡ field_end b.now at }
+// The position after the field at a position, if there is one.
+fn field_end(b: &[u8], at: usize) -> Option<usize>
+    ensures { given result ≡ field_end b.now at }
 {
-    if b.len() <= at {
-        return 0;
-    }
-    let width = field_width(b[at]);
-    if width == 0 {
-        return 0;
-    }
+    let width = field_width(*b.get(at)?)?;
     if b.len() - at < width {
-        return 0;
+        return None;
     }
-    at + width
+    Some(at + width)
 }
 
 // The parts of the field at a position.
 fn field_parts(b: &[u8], at: usize) -> Field
-    requires { (0 < width_of (get_or b.now at 0)) × (at + width_of (get_or b.now at 0) ≤ length b.now) }
+    requires { FieldStands b.now at }
     ensures { (field_is result ≡ field_parts b.now at) × (result.form ≡ get_or b.now at 0) }
 {
-    let form = b[at];
     let from = at + FORM_WIDTH;
     let first = b[from];
-    match form {
-        0 => plain(form, first, 0, word4(b, from + VALUE_BITS_AT)),
-        1 => plain(form, first, b[from + KIND_WIDTH], 0),
-        2 => plain(form, 0, first, 0),
-        3 | 4 => plain(
-            form,
-            b[from + VARIABLE_WIDTH],
-            first,
-            word4(b, from + SUM_BITS_AT),
-        ),
-        5 => plain(form, first, 0, 0),
+    let bare = Field {
+        form: b[at],
+        ..Field::default()
+    };
+    match bare.form {
+        0 => Field {
+            kind: first,
+            bits: word4(b, from + VALUE_BITS_AT),
+            ..bare
+        },
+        1 => Field {
+            kind: first,
+            variable: b[from + KIND_WIDTH],
+            ..bare
+        },
+        2 => Field {
+            variable: first,
+            ..bare
+        },
+        3 | 4 => Field {
+            kind: b[from + VARIABLE_WIDTH],
+            variable: first,
+            bits: word4(b, from + SUM_BITS_AT),
+            ..bare
+        },
+        5 => Field {
+            kind: first,
+            ..bare
+        },
         _ => Field {
-            form,
             kind: first,
             variable: b[from + RANGE_VARIABLE_AT],
             bits: word4(b, from + VALUE_BITS_AT),
             highest: word4(b, from + HIGHEST_AT),
+            ..bare
         },
     }
 }
 
-// The field at a position: form 0, kind, value; 1, kind, variable; 2, variable; 3 and 4, variable, kind, value; 5, kind; 6, kind, lowest, highest, variable.
-pub fn read_field(b: &[u8], at: usize) -> FieldRead
-    ensures { (field_read result ≡ read_at field b.now at) × T (has_form result.field) }
+// The field at a position, and the position after it: form 0, kind, value; 1, kind, variable; 2, variable; 3 and 4, variable, kind, value; 5, kind; 6, kind, lowest, highest, variable.
+pub fn read_field(b: &[u8], at: usize) -> Option<(Field, usize)>
+    ensures { (field_read result ≡ read_at field b.now at) × IfSome result (λ r. T (has_form r.0)) }
 {
-    let end = field_end(b, at);
-    if end == 0 {
-        return FieldRead {
-            end: 0,
-            field: no_field(),
-        };
-    }
-    FieldRead {
-        end,
-        field: field_parts(b, at),
-    }
+    let end = field_end(b, at)?;
+    Some((field_parts(b, at), end))
 }
 
-// So many fields from a position on.
-fn read_fields(b: &[u8], at: usize, count: usize) -> FieldsRead
-    requires { (count ≤ most_fields) × (0 < at) × (at ≤ length b.now) }
-    ensures { (fields_read count result ≡ read_at (several field count) b.now at) × T (all has_form result.fields) }
+// So many fields from a position on, and the position after them.
+fn read_fields(b: &[u8], at: usize, count: usize) -> Option<([Field; MOST_FIELDS], usize)>
+    requires { (count ≤ most_fields) × (at ≤ length b.now) }
+    ensures { (fields_read count result ≡ read_at (several field count) b.now at) × IfSome result (λ r. T (all has_form r.0)) }
 {
-    let none = no_field();
-    let mut fields = [none; MOST_FIELDS];
+    let mut fields = [Field::default(); MOST_FIELDS];
     let mut end = at;
-    let mut i: usize = 0;
-    while i < count {
-        let r = read_field(b, end);
-        let next = r.end;
-        if next == 0 {
-            return FieldsRead { end: 0, fields };
-        }
-        let f = r.field;
-        fields[i] = f;
-        end = next;
-        i += 1;
+    for field in &mut fields[..count] {
+        (*field, end) = read_field(b, end)?;
     }
-    FieldsRead { end, fields }
+    Some((fields, end))
 }
 
-// The position after so many fields from a position on; 0: there are not so many.
-fn fields_end(b: &[u8], at: usize, count: usize) -> usize
-    requires { (0 < at) × (at ≤ length b.now) }
-    ensures { position result ≡ ended (read_at (several field count) b.now at) }
+// The position after so many fields from a position on, if there are so many.
+fn fields_end(b: &[u8], at: usize, count: usize) -> Option<usize>
+    requires { at ≤ length b.now }
+    ensures { given result ≡ ended (read_at (several field count) b.now at) }
 {
     let mut end = at;
-    let mut i: usize = 0;
-    while i < count {
-        end = field_end(b, end);
-        if end == 0 {
-            return 0;
-        }
-        i += 1;
+    for _ in 0..count {
+        end = field_end(b, end)?;
     }
-    end
-}
-
-// An operation with no part: true.
-fn no_operation() -> Operation
-    ensures { (operation_is result ≡ always) × (result.count ≡ 0) × (result.code ≡ 0) }
-{
-    let f = no_field();
-    Operation {
-        code: TRUE,
-        from: 0,
-        to: 0,
-        count: 0,
-        fields: [f; MOST_FIELDS],
-    }
-}
-
-// That there is no operation.
-fn no_operation_read() -> OperationRead
-    ensures { Reads result none }
-{
-    OperationRead {
-        end: 0,
-        operation: no_operation(),
-    }
+    Some(end)
 }
 
 // The bytes of the spaces that an operation of a code above 0 names.
@@ -269,124 +187,107 @@ fn second_space(b: &[u8], at: usize, code: u8) -> u16
     space_number(b, at + SPACE_WIDTH)
 }
 
-// What stands before the fields of an operation: its code, its spaces, their count, and the position of the first; 0: there is no such operation.
+// An operation without its fields: its code and spaces.
 #[derive(Clone, Copy)]
-struct Front {
-    pub at: usize,
+pub struct Bare {
     pub code: u8,
     pub from: u16,
     pub to: u16,
-    pub count: usize,
 }
 
-// That there is no operation.
-fn no_front() -> Front
-    ensures { (b : List ℕ) → Fronts result b none }
-{
-    Front {
-        at: 0,
-        code: TRUE,
-        from: 0,
-        to: 0,
-        count: 0,
-    }
+// What stands before the fields of an operation: the operation without them, their count, and the position of the first.
+#[derive(Clone, Copy)]
+struct Front {
+    pub bare: Bare,
+    pub count: usize,
+    pub at: usize,
 }
 
 // Codes 1 to 7, after the code: space, or from and to; then the field count.
-fn front_on_spaces(b: &[u8], at: usize, code: u8) -> Front
+fn front_on_spaces(b: &[u8], at: usize, code: u8) -> Option<Front>
     requires { (0 < code) × (at ≤ length b.now) × (code < codes) }
     ensures { Fronts result b.now (passed few_fields (read_at (after_code code) b.now at)) }
 {
     let width = spaces_width(code);
     if b.len() - at < width + COUNT_WIDTH {
-        return no_front();
+        return None;
     }
     let count = size(b[at + width]);
     if MOST_FIELDS < count {
-        return no_front();
+        return None;
     }
     let first = space_number(b, at);
     let second = second_space(b, at, code);
-    Front {
-        at: at + width + COUNT_WIDTH,
-        code,
-        from: first,
-        to: second,
+    Some(Front {
+        bare: Bare {
+            code,
+            from: first,
+            to: second,
+        },
         count,
-    }
+        at: at + width + COUNT_WIDTH,
+    })
 }
 
 // The front of the operation at a position: code 0, true, has no more bytes; 1 to 5 name a space, 6 and 7 two.
-fn read_front(b: &[u8], at: usize) -> Front
+fn read_front(b: &[u8], at: usize) -> Option<Front>
     ensures { Fronts result b.now (operation_at b.now at) }
 {
-    if b.len() <= at {
-        return no_front();
-    }
-    let code = b[at];
-    if code == TRUE {
-        return Front {
-            at: at + CODE_WIDTH,
-            code,
-            from: 0,
-            to: 0,
+    let code = *b.get(at)?;
+    match code {
+        TRUE => Some(Front {
+            bare: Bare {
+                code,
+                from: 0,
+                to: 0,
+            },
             count: 0,
-        };
+            at: at + CODE_WIDTH,
+        }),
+        ..CODES => front_on_spaces(b, at + CODE_WIDTH, code),
+        _ => None,
     }
-    if code < CODES {
-        return front_on_spaces(b, at + CODE_WIDTH, code);
-    }
-    no_front()
 }
 
-// The operation at a position, with its fields.
-pub fn read_operation(b: &[u8], at: usize) -> OperationRead
+// The operation at a position, with its fields, and the position after it.
+pub fn read_operation(b: &[u8], at: usize) -> Option<(Operation, usize)>
     ensures { Reads result (operation_at b.now at) }
 {
-    let f = read_front(b, at);
-    if f.at == 0 {
-        return no_operation_read();
-    }
-    let r = read_fields(b, f.at, f.count);
-    let fields = r.fields;
-    OperationRead {
-        end: r.end,
-        operation: Operation {
-            code: f.code,
-            from: f.from,
-            to: f.to,
+    let f = read_front(b, at)?;
+    let (fields, end) = read_fields(b, f.at, f.count)?;
+    Some((
+        Operation {
+            code: f.bare.code,
+            from: f.bare.from,
+            to: f.bare.to,
             count: f.count,
             fields,
         },
-    }
-}
-
-// An operation without its fields: its code and spaces, and the position after it; 0: there is none.
-#[derive(Clone, Copy)]
-pub struct Bare {
-    pub end: usize,
-    pub code: u8,
-    pub from: u16,
-    pub to: u16,
+        end,
+    ))
 }
 
 // The operation at a position, its end found from field to field, and no field read.
-pub fn pass_operation(b: &[u8], at: usize) -> Bare
+pub fn pass_operation(b: &[u8], at: usize) -> Option<(Bare, usize)>
     ensures { bare_is result ≡ bare_at (operation_at b.now at) }
 {
-    let f = read_front(b, at);
-    if f.at == 0 {
-        return Bare {
-            end: 0,
-            code: f.code,
-            from: f.from,
-            to: f.to,
-        };
-    }
-    Bare {
-        end: fields_end(b, f.at, f.count),
-        code: f.code,
-        from: f.from,
-        to: f.to,
-    }
+    let f = read_front(b, at)?;
+    let end = fields_end(b, f.at, f.count)?;
+    Some((f.bare, end))
+}
+
+// The operation that stands at a position.
+pub fn standing_operation(b: &[u8], at: usize) -> (Operation, usize)
+    requires { T (is_some (operation_at b.now at)) }
+    ensures { Reads (Some result) (operation_at b.now at) }
+{
+    read_operation(b, at).unwrap()
+}
+
+// The same, passed over.
+pub fn standing_bare(b: &[u8], at: usize) -> (Bare, usize)
+    requires { T (is_some (operation_at b.now at)) }
+    ensures { bare_is (Some result) ≡ bare_at (operation_at b.now at) }
+{
+    pass_operation(b, at).unwrap()
 }

@@ -1,4 +1,5 @@
 -- The walk of a waiting body, branch by branch: spaces, in or rd, and no guard that holds. Assumes nothing.
+use Rattle.std.specs.Prelude.{None, Some}
 use Rattle.std.specs.Prelude.{◌≡◌, Bool, true, false, not, ◌&&◌, ◌||◌, List, [], get_or, eqb}
 use Rattle.std.proofs.Math.Path.{sym, ap, subst}
 use Rattle.std.proofs.Common.{◌∙◌, ne_eqb}
@@ -22,37 +23,18 @@ use Rattle.statements.specs.Flat.{operation_of, operation_is, Reads, operation_a
 use Rattle.statements.specs.Front.{bare, bare_of_lem}
 use Rattle.statements.specs.declared.Bare.{Bare}
 use Rattle.statements.specs.declared.Operation.{Operation}
-use Rattle.statements.specs.declared.OperationRead.{OperationRead}
 use Rattle.walk.specs.Standing.{no_items}
 use Rattle.walk.specs.Walk.{Branches, branches_from, ReadBranch, PassedBranch, read_branch, body_is, body_branches}
 use Rattle.names.specs.Asks.{asks}
-use Rattle.names.specs.Named.{names_some, PastBranch, branch_names, branch_stop, names_branches}
+use Rattle.names.specs.Named.{names_some, PastBranch, branch_hit, branch_miss, branch_stop, names_branches}
 use Rattle.names.specs.declared.SpaceTest.TheVariants.{Shut}
 use Rattle.waiting.specs.Waits.{waits}
 
--- ---- in and rd
-
--- the tests of a code, after those before it
-module _ (before : Bool) (o : Operation) where
-  blocking_is : is_blocking (operation_is o) ≡ (eqb o.code 1 || eqb o.code 3)
-  unfolding operation_is
-  blocking_is = blocking_of o.code o.from o.to _
-
-  pub blocks_before : before ≡ true → true ≡ (before || is_blocking (operation_is o))
-  blocks_before e = rw e
-
-  module _ (e : before ≡ false) where
-    pub blocks_in : o.code ≡ 1 → true ≡ (before || is_blocking (operation_is o))
-    blocks_in c = rw (e, blocking_is, c)
-
-    pub blocks_rd : (o.code ≡ 1 → ⊥) → eqb o.code 3 ≡ (before || is_blocking (operation_is o))
-    blocks_rd n = rw (e, blocking_is, ne_eqb o.code 1 n)
-
 -- ---- the walk
 
--- an operation that was read, without its fields
-abbrev pub bare_of : OperationRead → Bare
-bare_of r = record { end = r.end; code = r.operation.code; from = r.operation.from; to = r.operation.to }
+-- an operation without its fields
+abbrev pub bare_of : Operation → Bare
+bare_of o = record { code = o.code; from = o.from; to = o.to }
 
 module _ (ss : List Space) (ts : List Tuple) (p : ℕ) where
   -- of some branches, where one before blocks or none does
@@ -64,51 +46,63 @@ module _ (ss : List Space) (ts : List Tuple) (p : ℕ) where
     pub ahead : Branches b at left
     pub same : x ≡ among blocks (branches_from b at left)
 
-  pub walking_start : (b : List ℕ) → T (legal_body b) → Walking (waits ss ts p (statement_of b)) b branches_at (get_or b branch_count_at 0) false
+  pub walking_start : (b : List ℕ) → T (legal_body b) → Walking (waits ss ts p (statement_of b)) b branches_at (get_or b branch_count_at 0 - 0) false
   unfolding waits can_wait ready
   walking_start b t =
       let y = body_branches b (statement_of b) (body_is b t) in
-      record { ahead = y.stands; same = rw (names_branches (asks ss (Shut p)) b t, ← y.items) }
+      let z : get_or b branch_count_at 0 - 0 ≡ get_or b branch_count_at 0 = omega arith in
+      rw z (record { ahead = y.stands; same = rw (names_branches (asks ss (Shut p)) b t, ← y.items) })
 
   module _ (x : Bool) (b : List ℕ) (at left : ℕ) (blocks : Bool) (h : Walking x b at left blocks) where
-    pub walking_end : left ≤ 0 → blocks ≡ x
+    pub walking_end : left ≡ 0 → blocks ≡ x
     unfolding any
-    walking_end l = let z : left ≡ 0 = omega arith in sym (h.same ∙ rw (z, no_items branch b at, or-false blocks, and-true blocks))
+    walking_end z = sym (h.same ∙ rw (z, no_items branch b at, or-false blocks, and-true blocks))
 
-    -- the guard of the next one was read
-    module _ (r : OperationRead) (e : Reads r (operation_at b at)) (l : 0 < left) where
-      pub reading : ReadBranch b at (left - 1) r
-      reading = let more : left ≡ suc (left - 1) = omega arith in read_branch b at (left - 1) (subst (Branches b at) more h.ahead) r e
+    module _ (m : ℕ) (s : left ≡ suc m) where
+      pub walking_ahead : Branches b at (suc m)
+      walking_ahead = subst (Branches b at) s h.ahead
 
-      pub walking_guard : T (is_guard (operation_is r.operation))
-      unfolding legal_branch
-      walking_guard = let t = reading.0.legal in subst (λ (o : model.Operation). T (is_guard o)) (sym reading.1) (search (and_l, and_r, t) depth 6)
+      -- the guard of the next one was read
+      module _ (r : Operation × ℕ) (e : Reads (Some r) (operation_at b at)) where
+        pub reading : ReadBranch b at m r
+        reading = read_branch b at m walking_ahead r e
 
-      bare_guard : operation_of r.operation.code r.operation.from r.operation.to [] ≡ bare reading.0.first.guard
-      unfolding operation_is
-      bare_guard = sym (bare_of_lem r.operation.code r.operation.from r.operation.to _) ∙ ap bare reading.1
+        pub walking_guard : T (is_guard (operation_is r.0))
+        unfolding legal_branch
+        walking_guard = let t = reading.0.legal in subst (λ (o : model.Operation). T (is_guard o)) (sym reading.1) (search (and_l, and_r, t) depth 6)
 
-      abbrev passed : PassedBranch b at (left - 1) (bare_of r)
-      passed = (reading.0, bare_guard)
+        bare_guard : operation_of r.0.code r.0.from r.0.to [] ≡ bare reading.0.first.guard
+        unfolding operation_is
+        bare_guard = sym (bare_of_lem r.0.code r.0.from r.0.to _) ∙ ap bare reading.1
 
-      -- and its spaces were looked at
-      module _ (next : ℕ) (q : PastBranch (asks ss (Shut p)) b (bare_of r) next) where
-        whole : x ≡ (not (eqb next 0 || any (names_some (asks ss (Shut p))) (branches_from b reading.0.stop (left - 1)))
-            && ((blocks || (is_blocking (operation_is r.operation) || any (λ br. is_blocking br.guard) (branches_from b reading.0.stop (left - 1))))
-            && not (holds ts (operation_is r.operation) || any (guard_holds ts) (branches_from b reading.0.stop (left - 1)))))
+        abbrev passed : PassedBranch b at m (bare_of r.0, r.1)
+        passed = (reading.0, bare_guard)
+
+        abbrev shut : Branch → Bool
+        shut = names_some (asks ss (Shut p))
+
+        whole : x ≡ (not (shut reading.0.first || any shut (branches_from b reading.0.stop m))
+            && ((blocks || (is_blocking (operation_is r.0) || any (λ br. is_blocking br.guard) (branches_from b reading.0.stop m))) && not (holds ts (operation_is r.0) || any (guard_holds ts) (branches_from b reading.0.stop m))))
         unfolding any guard_holds
-        whole =
-            let more : left ≡ suc (left - 1) = omega arith in
-            h.same ∙ ap (λ (k : ℕ). among blocks (branches_from b at k)) more ∙ rw (reading.0.items, branch_names (asks ss (Shut p)) b at (left - 1) (bare_of r) passed next q, reading.1)
+        whole = h.same ∙ ap (λ (k : ℕ). among blocks (branches_from b at k)) s ∙ rw (reading.0.items, reading.1)
 
-        pub walking_shut : next ≡ 0 → false ≡ x
-        walking_shut z = sym (whole ∙ rw z)
+        -- and its spaces were looked at
+        pub walking_shut : PastBranch (asks ss (Shut p)) b (bare_of r.0) r.1 None → false ≡ x
+        walking_shut q = sym (whole ∙ rw (branch_hit (asks ss (Shut p)) b at m (bare_of r.0, r.1) passed q))
 
-        module _ (n : next ≡ 0 → ⊥) (t : Bool) (et : t ≡ holds ts (operation_is r.operation)) where
+        module _ (next : ℕ) (q : PastBranch (asks ss (Shut p)) b (bare_of r.0) r.1 (Some next)) (t : Bool) (et : t ≡ holds ts (operation_is r.0)) where
           pub walking_holds : t ≡ true → false ≡ x
           walking_holds z = sym (whole ∙ rw (sym et ∙ z, and-false, and-false))
 
-          pub walking_turn : t ≡ false → (u : Bool) → u ≡ (blocks || is_blocking (operation_is r.operation)) → Walking x b next (left - 1) u
+          blocking_is : is_blocking (operation_is r.0) ≡ (eqb r.0.code 1 || eqb r.0.code 3)
+          unfolding operation_is
+          blocking_is = blocking_of r.0.code r.0.from r.0.to _
+
+          pub walking_turn : t ≡ false → (u : Bool) → u ≡ (blocks || (eqb r.0.code 1 || eqb r.0.code 3)) → Walking x b next m u
           walking_turn z u eu =
-              rw (branch_stop (asks ss (Shut p)) b at (left - 1) (bare_of r) passed next q n, eu)
-              (record { ahead = reading.0.later; same = whole ∙ rw (ne_eqb next 0 n, sym et ∙ z, ← or_assoc blocks (is_blocking (operation_is r.operation)) (any (λ br. is_blocking br.guard) (branches_from b reading.0.stop (left - 1)))) })
+              rw (branch_stop (asks ss (Shut p)) b at m (bare_of r.0, r.1) passed next q, eu, ← blocking_is)
+              (record {
+                ahead = reading.0.later;
+                same = whole
+                    ∙ rw (branch_miss (asks ss (Shut p)) b at m (bare_of r.0, r.1) passed next q, sym et ∙ z, ← or_assoc blocks (is_blocking (operation_is r.0)) (any (λ br. is_blocking br.guard) (branches_from b reading.0.stop m)));
+              })

@@ -1,14 +1,12 @@
 // The statements that wait in a state: what "The state buffer" asks of each.
 #![tactic(auto)]
 
-ghost use Rattle.std.specs.Prelude.{◌≡◌, ◌≤◌, ◌<◌, ◌||◌, [], length, get_or, T};
+ghost use Rattle.std.specs.Prelude.{◌≡◌, ◌≤◌, ◌<◌, [], length, get_or, T};
 ghost use Rattle.basis.specs.Lists.{all, pieces};
 ghost use Rattle.basis.specs.Numbers.{bits};
 ghost use Rattle.basis.specs.Sizes.{hosts, most_tuples, most_waiting, tuples_size, waiting_size, waiting_all_size};
 ghost use Rattle.model.specs.Legal.{legal_body};
-ghost use Rattle.model.specs.Execution.{is_blocking};
 ghost use Rattle.layout.specs.Stored.{statement_of};
-ghost use Rattle.statements.specs.Flat.{operation_is};
 ghost use Rattle.tuples.specs.Section.{tuples_of};
 ghost use Rattle.spaces.specs.Spaces.{spaces_of, IsListed, Rising};
 ghost use Rattle.queue.specs.Queue.{waiting_of, IsQueued};
@@ -18,7 +16,7 @@ ghost use Rattle.sections.specs.Rows.{HasRows};
 ghost use Rattle.waiting.specs.Waits.{waits, keeps_waiting};
 
 use names::SpaceTest;
-use statements::{Bare, Operation, read_operation};
+use statements::{Bare, standing_operation};
 
 // ---- their section
 
@@ -40,12 +38,10 @@ fn rows_ok(waiting: &[u8], n: usize) -> bool
     requires { HasRows waiting_size waiting.now n × (n ≤ most_waiting) }
     ensures { result ≡ all row_legal (pieces n waiting_size waiting.now) }
 {
-    let mut i = 0;
-    while i < n {
+    for i in 0..n {
         if !row_ok(waiting, n, i) {
             return false;
         }
-        i += 1;
     }
     true
 }
@@ -63,48 +59,32 @@ pub fn is_queue(waiting: &[u8], n: usize) -> bool
 
 // ---- what they say
 
-// Whether some guard is in or rd: one before, or this one.
-fn some_blocks(before: bool, guard: Operation) -> bool
-    ensures { result ≡ (before || is_blocking (operation_is guard)) }
-{
-    if before {
-        return true;
-    }
-    if guard.code == 1 {
-        return true;
-    }
-    guard.code == 3
-}
-
 // The statement of a legal body "names only spaces open to that process", "has an in or rd guard, and no guard that holds". One walk, branch by
 // branch: the spaces of the guard and of its operations, and only then the search for the guard's tuple.
 fn waits(body: &[u8], process: u16, spaces: &[u8], n: usize, tuples: &[u8], m: usize) -> bool
     requires { T (legal_body body.now) × IsListed spaces.now n × Rising (spaces_of spaces.now n) × (length tuples.now ≡ tuples_size) × (m ≤ most_tuples) }
     ensures { result ≡ waits (spaces_of spaces.now n) (tuples_of tuples.now m) process (statement_of body.now) }
 {
-    let mut left = body[words::BRANCH_COUNT_AT];
     let mut at = words::BRANCHES_AT;
-    let mut blocks = false;
-    while 0 < left {
-        let read = read_operation(body, at);
-        let guard = read.operation;
+    let mut blocking = false;
+    for _ in 0..body[words::BRANCH_COUNT_AT] {
+        let (guard, end) = standing_operation(body, at);
         let bare = Bare {
-            end: read.end,
             code: guard.code,
             from: guard.from,
             to: guard.to,
         };
-        at = names::pass_branch(body, bare, spaces, n, SpaceTest::Shut(process));
-        if at == 0 {
+        let what = SpaceTest::Shut(process);
+        let Some(next) = names::pass_branch(body, bare, end, spaces, n, what) else {
             return false;
-        }
+        };
         if guards::holds(tuples, m, guard) {
             return false;
         }
-        blocks = some_blocks(blocks, guard);
-        left -= 1;
+        blocking = blocking || guards::is_blocking(guard.code);
+        at = next;
     }
-    blocks
+    blocking
 }
 
 // The statement at index i is "of an up host", and waits rightly, with m spaces and k tuples.
@@ -143,12 +123,10 @@ pub fn all_may_wait(
     requires { IsQueued waiting.now n × IsListed spaces.now m × Rising (spaces_of spaces.now m) × (length tuples.now ≡ tuples_size) × (k ≤ most_tuples) }
     ensures { result ≡ all (keeps_waiting (bits hosts up) (spaces_of spaces.now m) (tuples_of tuples.now k)) (waiting_of waiting.now n) }
 {
-    let mut i = 0;
-    while i < n {
+    for i in 0..n {
         if !may_wait(waiting, n, i, spaces, m, tuples, k, up) {
             return false;
         }
-        i += 1;
     }
     true
 }

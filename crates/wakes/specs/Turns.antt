@@ -29,7 +29,6 @@ use Rattle.header.specs.Rows.{queue_lent}
 use Rattle.queue.specs.Queue.{waiting_of}
 use Rattle.queue.specs.PlaceLaws.{no_waiting, waiting_nth, body_of}
 use Rattle.walk.specs.declared.Choice.{Choice}
-use Rattle.guards.specs.Searching.{chooses_none}
 use Rattle.oldest.specs.Searching.{ready_in, RunsAt}
 use Rattle.running.specs.Executed.{MayRun, Picked, still, executed}
 use Rattle.running.specs.Answers.{turned_still}
@@ -49,7 +48,7 @@ module _ (b : List ℕ) (i : ℕ) (state copy : List ℕ) (p n : ℕ) (g : Gone 
 
   -- the branch that was chosen is its
   pub gone_picked : (c : Choice) → PickedAt b i c → Picked (decode state) (take n copy) c
-  gone_picked c k = (rw (says, g.body, ap (chosen (decode b).tuples) (ap statement_of (sym g.body) ∙ g.statement)) k.0, k.1)
+  gone_picked c k = rw (says, g.body, ap (chosen (decode b).tuples) (ap statement_of (sym g.body) ∙ g.statement)) k
 
   -- and what it does is its turn
   pub gone_turn : (buffer bytes out : List ℕ) (m : ℕ) → Turned (executed (decode state) p (statement_of (take n copy))) buffer bytes out m → Turned (woken_at (decode b) i) buffer bytes out m
@@ -124,15 +123,12 @@ module _ (b : List ℕ) (n : ℕ) (ts : List Tuple) (h : IsStored b) (et : ts �
     pub wakes_at : WokenAt (decode b) i
     wakes_at = woken_at_lem (decode b) (record { index = i; item = waiting_nth (queue_lent b) n i }) ((λ k. first (ready_in (sym et k)) (sym ew k)) ∙ r.is)
 
-    -- a branch of it was chosen, since a guard of it holds
+    -- the branch that was chosen is its
     pub wakes_picked : PickedAt b i c
     unfolding place
     wakes_picked =
-        let st : Statement = (waiting_nth (queue_lent b) n i).statement in
-        let holds : ready ts st ≡ true = is_true (ready ts st) (first_some (ready_in ts) (waiting_of (queue_lent b) n) (record { index = i; item = waiting_nth (queue_lent b) n i }) r.is).passes in
-        let none_chosen : (c.branch ≡ 0 → ⊥) = λ z. true≢false (sym holds ∙ chooses_none (body_of (queue_lent b) i) ts st c.branch c.at c.tuple r.chooses z) in
-        let same : st ≡ (place (decode b) i).statement = ap (λ (ws : List Waiting). (get_or ws i no_waiting).statement) ew in
-        (rw (et, same) at r.chooses, none_chosen)
+        let same : (waiting_nth (queue_lent b) n i).statement ≡ (place (decode b) i).statement = ap (λ (ws : List Waiting). (get_or ws i no_waiting).statement) ew in
+        rw (et, same) at r.picks
 
     pub wakes_some : (buffer state out : List ℕ) (m : ℕ) → Turned (woken_at (decode b) i) buffer state out m → Turned (woken (decode b)) buffer state out m
     wakes_some buffer state out m t = subst (λ (t : Turn). Turned t buffer state out m) wakes_at.turn t

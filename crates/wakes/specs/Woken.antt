@@ -8,7 +8,7 @@ use Rattle.layout.specs.States.{decode}
 use Rattle.layout.specs.Stored.{Stored}
 use Rattle.header.specs.Rows.{queue_lent}
 use Rattle.queue.specs.PlaceLaws.{body_of}
-use Rattle.walk.specs.Choosing.{Chooses}
+use Rattle.walk.specs.Choosing.{Picks}
 use Rattle.walk.specs.declared.Choice.{Choice}
 use Rattle.running.specs.Executed.{still, executed}
 use Rattle.leaving.specs.Leaving.{place, without}
@@ -29,4 +29,4 @@ woken s = get_or (wake s) (still s)
 
 -- a branch of it was chosen, by the bytes of its body in the queue
 abbrev pub PickedAt : (state : List ℕ) → ℕ → Choice → Type 0
-PickedAt b i c = Chooses (body_of (queue_lent b) i) (decode b).tuples (chosen (decode b).tuples (place (decode b) i).statement) c.branch c.at c.tuple × (c.branch ≡ 0 → ⊥)
+PickedAt b i c = Picks (body_of (queue_lent b) i) (decode b).tuples (chosen (decode b).tuples (place (decode b) i).statement) c

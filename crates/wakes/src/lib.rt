@@ -8,7 +8,6 @@ ghost use Rattle.layout.specs.States.{decode};
 ghost use Rattle.layout.specs.Stored.{IsStored, Turned};
 ghost use Rattle.wakes.specs.Woken.{Further, PickedAt, woken_at, woken};
 
-use oldest::Oldest;
 use walk::Choice;
 
 // The waiting statement at an index "runs and leaves the queue, whatever its outcome": the branch that was chosen when it was found.
@@ -28,15 +27,15 @@ fn wake_one(state: &mut [u8], out: &mut [u8]) -> usize
 {
     let n = header::waiting_count(state);
     let m = header::tuple_count(state);
-    match oldest::oldest_ready(
+    let Some((i, choice)) = oldest::oldest_ready(
         &state[words::WAITING_AT..words::WAITING_END],
         n,
         &state[words::TUPLES_AT..words::TUPLES_END],
         m,
-    ) {
-        Oldest::At(i, choice) => wake_at(state, i, choice, out),
-        Oldest::Nobody => 0,
-    }
+    ) else {
+        return 0;
+    };
+    wake_at(state, i, choice, out)
 }
 
 // "before each search of the waiting queue": what is owed is laid, then one turn.

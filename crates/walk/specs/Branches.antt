@@ -11,8 +11,8 @@ use Rattle.basis.specs.Sizes.{count_width}
 use Rattle.model.specs.Statement.{Operation, Branch}
 use Rattle.model.specs.Reading.{◌>>=◌, give, several, counted, operation, branch}
 use Rattle.model.proofs.ReadBack.{several_length}
-use Rattle.statements.specs.At.{which, placed, read_at, position, Suffix, suffix_at, suffix_last, suffix_then, suffix_counted}
-use Rattle.statements.specs.Ends.{end_at, end_of, end_of_lem, position_none}
+use Rattle.statements.specs.At.{which, placed, read_at, Suffix, suffix_at, suffix_last, suffix_then, suffix_counted}
+use Rattle.statements.specs.Ends.{end_at, end_of, end_of_lem}
 use Rattle.statements.specs.Fixed.{fixed_byte}
 use Rattle.statements.specs.Operations.{suffix_operation}
 
@@ -97,14 +97,14 @@ module _ (ok : Branch → Bool) (first : Operation → Bool) (many : ℕ → Boo
 
 -- the counted operations, in code
 module _ (many : ℕ → Bool) (ok : List Operation → Bool) (b : List ℕ) (at : ℕ) where
-  pub no_count : length b ≤ at → position 0 ≡ counted_end many ok b at
+  pub no_count : length b ≤ at → none ≡ counted_end many ok b at
   unfolding counted_end
-  no_count l = position_none 0 refl ∙ rw (le-ltb at (length b) l)
+  no_count l = rw (le-ltb at (length b) l)
 
-  pub too_many : at < length b → many (get_or b at 0) ≡ false → position 0 ≡ counted_end many ok b at
+  pub too_many : at < length b → many (get_or b at 0) ≡ false → none ≡ counted_end many ok b at
   unfolding counted_end
-  too_many l e = position_none 0 refl ∙ rw (lt-ltb at (length b) l, e)
+  too_many l e = rw (lt-ltb at (length b) l, e)
 
-  pub counted_body : at < length b → many (get_or b at 0) ≡ true → (count end : ℕ) → count ≡ get_or b at 0 → position end ≡ end_at (several operation count) ok b (at + count_width) → position end ≡ counted_end many ok b at
+  pub counted_body : at < length b → many (get_or b at 0) ≡ true → (count : ℕ) (end : Option ℕ) → count ≡ get_or b at 0 → end ≡ end_at (several operation count) ok b (at + count_width) → end ≡ counted_end many ok b at
   unfolding counted_end
   counted_body l e count end c h = h ∙ rw (lt-ltb at (length b) l, e, c)

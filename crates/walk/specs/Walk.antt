@@ -1,8 +1,8 @@
 -- The walk of a legal body: its branches, of each the guard, the count and the operations, from position to position. Assumes nothing.
-use Rattle.std.specs.Prelude.{◌≡◌, refl, ℕ, zero, suc, ◌+◌, ◌-◌, ◌≤◌, ◌<◌, List, [], ◌∷◌, length, drop, get_or, T}
+use Rattle.std.specs.Prelude.{◌≡◌, refl, ℕ, suc, ◌+◌, ◌-◌, ◌≤◌, ◌<◌, List, [], ◌∷◌, length, drop, get_or, T, Some}
 use Rattle.std.proofs.Common.{sym, ap, subst, ◌∙◌, arith, length-drop, ltb→lt}
-use Rattle.std.proofs.Math.Option.{some, some-injective, none-ne-some}
-use Rattle.basis.specs.Choice.{provided}
+use Rattle.std.proofs.Math.Option.{some, some-injective}
+use Rattle.basis.specs.Choice.{is_some, provided}
 use Rattle.basis.specs.Logic.{and_l, and_r, is_true}
 use Rattle.basis.specs.Lists.{all}
 use Rattle.basis.specs.Sizes.{hosts, host_at, count_width, branch_count_at, branches_at}
@@ -11,14 +11,14 @@ use Rattle.model.specs.Legal.{legal_branch, legal_statement, legal_body}
 use Rattle.model.specs.Reading.{several, operation, branch}
 use Rattle.model.proofs.ReadBack.{several_length}
 use Rattle.layout.specs.Stored.{statement_of, legal_parse}
-use Rattle.statements.specs.At.{passed, some_read_at, found, position, suffix_at, suffix_several}
-use Rattle.statements.specs.Ends.{end_at, end_of_lem, position_is}
+use Rattle.statements.specs.At.{passed, some_read_at, suffix_at, suffix_several}
+use Rattle.statements.specs.Ends.{end_at, end_of_lem}
 use Rattle.statements.specs.BranchAt.{BranchAt, branch_at_lem}
 use Rattle.statements.specs.Operations.{suffix_operation}
-use Rattle.statements.specs.Flat.{operation_of, operation_is, read_is, Reads, few_fields, operation_at}
+use Rattle.statements.specs.Flat.{operation_of, operation_is, Reads, few_fields, operation_at}
 use Rattle.statements.specs.Front.{bare, bare_at, bare_is}
 use Rattle.statements.specs.declared.Bare.{Bare}
-use Rattle.statements.specs.declared.OperationRead.{OperationRead}
+use Rattle.statements.specs.declared.Operation as flat
 use Rattle.walk.specs.BodyParts.{BodyParts, body_parts}
 use Rattle.walk.specs.Branches.{suffix_branch}
 use Rattle.walk.specs.LegalEnds.{legal_some, legal_branches, few_parts}
@@ -53,28 +53,20 @@ there : (b : List ℕ) (at end : ℕ) (o : Operation) → operation (drop at b) 
 unfolding operation_at passed provided
 there b at end o e h t = rw (some_read_at operation b at o end e h, is_true (few_fields o) t)
 
--- one operation is found at a position, with its end
-found_is_lem : (end stop : ℕ) (o a : Operation) → found end o ≡ some (a, stop) → (o ≡ a) × (end ≡ stop)
-unfolding found
-found_is_lem zero stop o a e = absurd (none-ne-some (a, stop) e)
-found_is_lem (suc end) stop o a e =
-    let q = some-injective (o, suc end) (a, stop) e in
-    (ap (λ (y : Operation × ℕ). y.0) q, ap (λ (y : Operation × ℕ). y.1) q)
-
--- and its end lies past the first byte
-found_past : (end stop : ℕ) (o a : Operation) → found end o ≡ some (a, stop) → 0 < end
-unfolding found
-found_past zero stop o a e = absurd (none-ne-some (a, stop) e)
-found_past (suc end) stop o a e = omega arith
+-- what is there is found
+is_there : (b : List ℕ) (at : ℕ) (o : Operation) (end : ℕ) → There b at o end → T (is_some (operation_at b at))
+unfolding is_some
+is_there b at o end h = rw h tt
 
 module _ (b : List ℕ) (at : ℕ) (o : Operation) (end : ℕ) (h : There b at o end) where
-  read_is_lem : (r : OperationRead) → Reads r (operation_at b at) → (operation_is r.operation ≡ o) × (r.end ≡ end)
-  unfolding read_is
-  read_is_lem r e = found_is_lem r.end end (operation_is r.operation) o (e.is ∙ h)
+  read_is_lem : (r : flat.Operation × ℕ) → Reads (Some r) (operation_at b at) → (operation_is r.0 ≡ o) × (r.1 ≡ end)
+  read_is_lem r e = let q = some-injective (operation_is r.0, r.1) (o, end) (e.is ∙ h) in (ap (λ (y : Operation × ℕ). y.0) q, ap (λ (y : Operation × ℕ). y.1) q)
 
-  bare_is_lem : (r : Bare) → bare_is r ≡ bare_at (operation_at b at) → (operation_of r.code r.from r.to [] ≡ bare o) × (r.end ≡ end)
-  unfolding bare_is bare_at
-  bare_is_lem r e = found_is_lem r.end end (operation_of r.code r.from r.to []) (bare o) (e ∙ rw h)
+  bare_is_lem : (r : Bare × ℕ) → bare_is (Some r) ≡ bare_at (operation_at b at) → (operation_of r.0.code r.0.from r.0.to [] ≡ bare o) × (r.1 ≡ end)
+  unfolding bare_at
+  bare_is_lem r e =
+      let q = some-injective (operation_of r.0.code r.0.from r.0.to [], r.1) (bare o, end) (e ∙ rw h) in
+      (ap (λ (y : Operation × ℕ). y.0) q, ap (λ (y : Operation × ℕ). y.1) q)
 
 -- ---- one operation, then those after it
 
@@ -86,10 +78,10 @@ pub record Next (b : List ℕ) (at count : ℕ) (o : Operation) (end : ℕ) : Ty
   pub later : Operations b end count
 
 -- an operation that was passed over
-pub record PassedNext (b : List ℕ) (at count : ℕ) (r : Bare) : Type 0 where
+pub record PassedNext (b : List ℕ) (at count : ℕ) (r : Bare × ℕ) : Type 0 where
   pub item : Operation
-  pub is : operation_of r.code r.from r.to [] ≡ bare item
-  pub next : Next b at count item r.end
+  pub is : operation_of r.0.code r.0.from r.0.to [] ≡ bare item
+  pub next : Next b at count item r.1
 
 module _ (b : List ℕ) (at count : ℕ) (h : Operations b at (suc count)) where
   abbrev one : First operation few_fields b at count
@@ -101,27 +93,35 @@ module _ (b : List ℕ) (at count : ℕ) (h : Operations b at (suc count)) where
   next_one : Next b at count one.item one.end
   next_one = record { within = one.within; few = one.passes; items = one.items; left = one.left; later = one.later }
 
-  pub read_next : (r : OperationRead) → Reads r (operation_at b at) → Next b at count (operation_is r.operation) r.end
+  -- the next operation is there
+  pub next_there : T (is_some (operation_at b at))
+  next_there = is_there b at one.item one.end one_there
+
+  pub read_next : (r : flat.Operation × ℕ) → Reads (Some r) (operation_at b at) → Next b at count (operation_is r.0) r.1
   read_next r e = let q = read_is_lem b at one.item one.end one_there r e in rw (q.0, q.1) next_one
 
-  pub pass_next : (r : Bare) → bare_is r ≡ bare_at (operation_at b at) → PassedNext b at count r
+  pub pass_next : (r : Bare × ℕ) → bare_is (Some r) ≡ bare_at (operation_at b at) → PassedNext b at count r
   pass_next r e =
       let q = bare_is_lem b at one.item one.end one_there r e in
       record { item = one.item; is = q.0; next = rw q.1 next_one }
 
-  pub pass_past : (r : Bare) → bare_is r ≡ bare_at (operation_at b at) → 0 < r.end
-  unfolding bare_is bare_at
-  pass_past r e = found_past r.end one.end (operation_of r.code r.from r.to []) (bare one.item) (e ∙ rw one_there)
-
 -- where operations end, found by going from end to end
-pub operations_past : (b : List ℕ) (at count end : ℕ) → Operations b at count → position end ≡ end_at (several operation count) (all few_fields) b at → (drop end b ≡ after_operations b at count) × (end ≤ length b)
-unfolding provided
-operations_past b at count end h e =
-    let left : List ℕ = after_operations b at count in
-    let stop : end_at (several operation count) (all few_fields) b at ≡ some (length b - length left) = end_of_lem (several operation count) (all few_fields) b at ∙ rw (h.reads, is_true (all few_fields (operations_at b at count)) h.pass) in
-    let same : end ≡ length b - length left = position_is end (length b - length left) (e ∙ stop) in
-    let last : drop (length b - length left) b ≡ left = suffix_at (several operation count) (suffix_several operation suffix_operation count) b at (operations_at b at count) left h.reads in
-    (ap (λ (n : ℕ). drop n b) same ∙ last, omega (arith, same))
+module _ (b : List ℕ) (at count : ℕ) (h : Operations b at count) where
+  operations_stop : end_at (several operation count) (all few_fields) b at ≡ some (length b - length (after_operations b at count))
+  unfolding provided
+  operations_stop = end_of_lem (several operation count) (all few_fields) b at ∙ rw (h.reads, is_true (all few_fields (operations_at b at count)) h.pass)
+
+  -- it is found
+  pub operations_there : T (is_some (end_at (several operation count) (all few_fields) b at))
+  unfolding is_some
+  operations_there = rw operations_stop tt
+
+  pub operations_past : (end : ℕ) → some end ≡ end_at (several operation count) (all few_fields) b at → (drop end b ≡ after_operations b at count) × (end ≤ length b)
+  operations_past end e =
+      let left : List ℕ = after_operations b at count in
+      let same : end ≡ length b - length left = some-injective end (length b - length left) (e ∙ operations_stop) in
+      let last : drop (length b - length left) b ≡ left = suffix_at (several operation count) (suffix_several operation suffix_operation count) b at (operations_at b at count) left h.reads in
+      (ap (λ (n : ℕ). drop n b) same ∙ last, omega (arith, same))
 
 -- ---- one branch, then those after it
 
@@ -143,11 +143,11 @@ pub record NextBranch (b : List ℕ) (at others end : ℕ) : Type 0 where
   pub after : after_operations b (end + count_width) (get_or b end 0) ≡ drop stop b
 
 -- the guard of it was read, or passed over
-abbrev pub ReadBranch : List ℕ → (at count : ℕ) → OperationRead → Type 0
-ReadBranch b at count r = (h : NextBranch b at count r.end) × (operation_is r.operation ≡ h.first.guard)
+abbrev pub ReadBranch : List ℕ → (at count : ℕ) → flat.Operation × ℕ → Type 0
+ReadBranch b at count r = (h : NextBranch b at count r.1) × (operation_is r.0 ≡ h.first.guard)
 
-abbrev pub PassedBranch : List ℕ → (at count : ℕ) → Bare → Type 0
-PassedBranch b at count r = (h : NextBranch b at count r.end) × (operation_of r.code r.from r.to [] ≡ bare h.first.guard)
+abbrev pub PassedBranch : List ℕ → (at count : ℕ) → Bare × ℕ → Type 0
+PassedBranch b at count r = (h : NextBranch b at count r.1) × (operation_of r.0.code r.0.from r.0.to [] ≡ bare h.first.guard)
 
 module _ (b : List ℕ) (at count : ℕ) (h : Branches b at (suc count)) where
   abbrev one_branch : First branch legal_branch b at count
@@ -182,15 +182,19 @@ module _ (b : List ℕ) (at count : ℕ) (h : Branches b at (suc count)) where
       } in
       (h, refl)
 
-  pub read_branch : (r : OperationRead) → Reads r (operation_at b at) → ReadBranch b at count r
+  -- the guard is there
+  pub branch_there : T (is_some (operation_at b at))
+  branch_there = is_there b at one_branch.item.guard parts.end guard_there
+
+  pub read_branch : (r : flat.Operation × ℕ) → Reads (Some r) (operation_at b at) → ReadBranch b at count r
   read_branch r e =
       let q = read_is_lem b at one_branch.item.guard parts.end guard_there r e in
-      subst (λ (n : ℕ). (h : NextBranch b at count n) × (operation_is r.operation ≡ h.first.guard)) (sym q.1) (next_branch.0, q.0 ∙ sym next_branch.1)
+      subst (λ (n : ℕ). (h : NextBranch b at count n) × (operation_is r.0 ≡ h.first.guard)) (sym q.1) (next_branch.0, q.0 ∙ sym next_branch.1)
 
-  pub pass_branch : (r : Bare) → bare_is r ≡ bare_at (operation_at b at) → PassedBranch b at count r
+  pub pass_branch : (r : Bare × ℕ) → bare_is (Some r) ≡ bare_at (operation_at b at) → PassedBranch b at count r
   pass_branch r e =
       let q = bare_is_lem b at one_branch.item.guard parts.end guard_there r e in
-      subst (λ (n : ℕ). (h : NextBranch b at count n) × (operation_of r.code r.from r.to [] ≡ bare h.first.guard)) (sym q.1) (next_branch.0, q.0 ∙ ap bare (sym next_branch.1))
+      subst (λ (n : ℕ). (h : NextBranch b at count n) × (operation_of r.0.code r.0.from r.0.to [] ≡ bare h.first.guard)) (sym q.1) (next_branch.0, q.0 ∙ ap bare (sym next_branch.1))
 
 -- the position after a branch's operations is where the others stand
 pub stop_is : (b : List ℕ) (at count end next : ℕ) (h : NextBranch b at count end) → next ≤ length b → drop next b ≡ after_operations b (end + count_width) (get_or b end 0) → next ≡ h.stop

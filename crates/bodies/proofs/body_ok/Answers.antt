@@ -1,16 +1,24 @@
 -- `bodies::body_ok` meets its contract. Assumes nothing.
-use mathlib.Core.Path.{sym, ◌∙◌}
-use Rattle.bodies.specs.BodyLaws.{body_long, body_short, body_no_head, body_branches}
+use Rattle.std.proofs.Common.{◌≡◌, sym, ◌∙◌, length, true≢false}
+use Rattle.basis.specs.Sizes.{branches_at, most_body}
+use Rattle.bodies.specs.BodyLaws.{range_told, sized, sized_parts, body_unsized, body_no_head, body_branches, end_told}
 use Rattle.bodies.proofs.body_ok.Goals as goal
+use Rattle.bodies.proofs.body_ok.Goals.{then-contains, else-contains, After-contains}
 
-pub returns-then-b-gt-MOST_BODY : goal.returns-then-b-gt-MOST_BODY
-returns-then-b-gt-MOST_BODY c = body_long c.args.b.now c.if-b-gt-MOST_BODY.true
+told : (c : After-contains) → c.contains.result ≡ sized (length c.args.b.now)
+told c = rw (c.new.ensures.start, c.new.ensures.end, c.new.ensures.exhausted) at c.contains.ensures.value ∙ range_told branches_at (length c.args.b.now) most_body
 
-pub returns-then-b-lt-BRANCHES_AT : goal.returns-then-b-lt-BRANCHES_AT
-returns-then-b-lt-BRANCHES_AT c = body_short c.args.b.now c.if-b-lt-BRANCHES_AT.true
+pub returns-then-head_legal : goal.returns-then-head_legal
+returns-then-head_legal c = elim c.if-contains.branch [
+  | then-contains w ↦ let s = sized_parts (length c.args.b.now) (sym w.if-contains.true ∙ told (goal.at.returns-then-head_legal c).After-contains) in
+      body_branches c.args.b.now s.0 s.1 (λ x. (c.type_inv.b x).fits) (sym w.head_legal.ensures ∙ sym w.value-is ∙ c.if-head_legal.true) _ c.size.result c.size.ensures.0
+      (let t = end_told c.branches_ok.result _ (length c.args.b.now) c.branches_ok.ensures in cc)
+  | else-contains w ↦ absurd (true≢false (sym c.if-head_legal.true ∙ w.value-is ∙ w.if-contains.false))
+]
 
-pub returns-then-not-head_legal : goal.returns-then-not-head_legal
-returns-then-not-head_legal c = body_no_head c.args.b.now c.if-b-gt-MOST_BODY.false c.if-b-lt-BRANCHES_AT.false (λ x. (c.type_inv.b x).fits) (sym c.head_legal.ensures ∙ c.if-not-head_legal.true)
-
-pub returns : goal.returns
-returns c = body_branches c.args.b.now c.if-b-gt-MOST_BODY.false c.if-b-lt-BRANCHES_AT.false (λ x. (c.type_inv.b x).fits) (sym c.head_legal.ensures ∙ c.if-not-head_legal.false) c.branches_ok.result c.size.result c.size.ensures.0 c.branches_ok.ensures
+pub returns-else-head_legal : goal.returns-else-head_legal
+returns-else-head_legal c = elim c.if-contains.branch [
+  | then-contains w ↦ let s = sized_parts (length c.args.b.now) (sym w.if-contains.true ∙ told (goal.at.returns-else-head_legal c).After-contains) in
+      rw c.if-head_legal.false (body_no_head c.args.b.now s.0 s.1 (λ x. (c.type_inv.b x).fits) (sym w.head_legal.ensures ∙ sym w.value-is ∙ c.if-head_legal.false))
+  | else-contains w ↦ rw c.if-head_legal.false (body_unsized c.args.b.now (sym w.if-contains.false ∙ told (goal.at.returns-else-head_legal c).After-contains))
+]

@@ -1,5 +1,4 @@
 -- `bodies::branches_ok` meets its contract. Assumes nothing.
-use Prim.Native.Nat.{◌-◌}
 use Rattle.basis.specs.Lists.{all}
 use Rattle.basis.specs.Sizes.{branches_at}
 use Rattle.model.specs.Legal.{legal_branch}
@@ -7,8 +6,5 @@ use Rattle.model.specs.Reading.{branch}
 use Rattle.statements.specs.Ends.{Passing}
 use Rattle.bodies.proofs.branches_ok.Given as goal
 
-abbrev pub invariant-loop-i : goal.invariant-loop-i
-invariant-loop-i l = Passing branch (all legal_branch) (all legal_branch) l.b branches_at l.count l.at l.i
-
-abbrev pub decreases-loop-i : goal.decreases-loop-i
-decreases-loop-i l = l.count - l.i
+abbrev pub invariant-loop : goal.invariant-loop
+invariant-loop l = Passing branch (all legal_branch) (all legal_branch) l.b branches_at l.count l.at l.counter

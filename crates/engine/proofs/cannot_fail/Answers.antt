@@ -1,38 +1,31 @@
 -- `engine::cannot_fail` meets its contract. Assumes nothing.
-use mathlib.Core.Path.{◌≡◌}
-use Prim.Native.Nat.{ℕ, suc, ◌-◌, ◌<◌}
+use mathlib.Core.Path.{◌≡◌, sym}
+use Rattle.std.proofs.Math.Bool.{true≢false}
+use Prim.Native.Nat.{ℕ, suc, ◌+◌, ◌-◌}
 use native.Mathlib.Omega.{arith}
-use Rattle.engine.specs.Unfailing.{passing_end, passing_within, passing_turn}
+use Rattle.walk.specs.Walk.{next_there}
+use Rattle.engine.specs.Unfailing.{passing_start, passing_end, to_come_lem, passing_within, passing_turn}
 use Rattle.engine.proofs.cannot_fail.Goals as goal
-use Rattle.engine.proofs.cannot_fail.Goals.{In-loop-left}
+use Rattle.engine.proofs.cannot_fail.Goals.{In-loop}
 
-module _ (c : In-loop-left) where
-  one_more : c.loop-left.left ≡ suc (c.loop-left.left - 1)
-  one_more = let pos : 0 < c.loop-left.left = c.loop-left-test.true in omega arith
+one_more : (c : In-loop) → c.args.count - c.loop.counter ≡ suc (c.args.count - (c.loop.counter + 1))
+one_more c = omega (arith, c.loop-test.true)
 
-pub loop-left-init : goal.loop-left-init
-loop-left-init c = record { stands = c.requires; decide = λ h. h }
+pub loop-init : goal.loop-init
+loop-init c = let a = c.args in passing_start a.body.now a.at a.count a.room c.requires
 
-pub pass_unfailing-s-requires : goal.pass_unfailing-s-requires
-pass_unfailing-s-requires c = let l = c.loop-left in passing_within _ _ _ _ l.next l.left l.free l.invariant (l.left - 1) (one_more c)
+pub pass_unfailing-requires : goal.pass_unfailing-requires
+pass_unfailing-requires c =
+    let l = c.loop in
+    (passing_within _ _ _ _ l.next _ l.free l.invariant _ (one_more c), next_there c.args.body.now l.next _ (to_come_lem _ _ _ _ l.next _ l.free l.invariant _ (one_more c)))
 
-pub returns-then-s-eq0 : goal.returns-then-s-eq0
-returns-then-s-eq0 c t = let z : ◌≡◌ {A = ℕ} 0 1 = cc in absurd (omega arith)
+pub returns-in_default : goal.returns-in_default
+returns-in_default c t = absurd (true≢false (sym t))
 
-pub overflow_sub-left : goal.overflow_sub-left
-overflow_sub-left c = c.loop-left-test.true
-
-pub loop-left-smaller : goal.loop-left-smaller
-loop-left-smaller c = let pos : 0 < c.loop-left.left = c.loop-left-test.true in omega arith
-
-pub loop-left-preserved : goal.loop-left-preserved
-loop-left-preserved c =
-    let l = c.loop-left in
-    let s = c.pass_unfailing-s in
-    passing_turn _ _ _ _ l.next l.left l.free l.invariant (l.left - 1) (one_more (goal.at.loop-left-preserved c).In-loop-left) s.result.end s.result.room (s.ensures c.if-s-eq0.false)
+pub loop-preserved : goal.loop-preserved
+loop-preserved c =
+    let l = c.loop in
+    passing_turn _ _ _ _ l.next _ l.free l.invariant _ (one_more (goal.at.loop-preserved c).In-loop) c.in-Some.end c.in-Some.left c.in-Some.ensures
 
 pub returns : goal.returns
-returns c t =
-    let l = c.loop-left in
-    let end : l.left ≡ 0 = omega (arith, c.loop-left-test.false) in
-    passing_end _ _ _ _ l.next l.left l.free l.invariant end
+returns c t = let l = c.loop in passing_end _ _ _ _ l.next _ l.free l.invariant (omega (arith, c.loop-test.false))

@@ -1,10 +1,13 @@
 -- `engine::is_plain` meets its contract. Assumes nothing.
-use borrow.Author.Tests.{eqb-true}
-use Rattle.engine.specs.Unfailing.{plain_actual, plain_reference}
+use mathlib.Core.Path.{◌≡◌, sym, ◌∙◌}
+use mathlib.Core.Bool.{true, false, ◌||◌}
+use lib.Dec.{eqb}
+use Rattle.std.proofs.Common.{rules}
+use Rattle.engine.specs.Unfailing.{plain_form}
 use Rattle.engine.proofs.is_plain.Goals as goal
 
-pub returns-then-f-eq0 : goal.returns-then-f-eq0
-returns-then-f-eq0 c t = plain_actual c.args.f c.if-f-eq0.true
+pub returns-in-0 : goal.returns-in-0
+returns-in-0 c = let h : true ≡ (eqb c.args.f.form 0 || eqb c.args.f.form 2) = search rules in h ∙ sym (plain_form c.args.f)
 
-pub returns : goal.returns
-returns c t = plain_reference c.args.f (eqb-true _ _ t)
+pub returns-in_default : goal.returns-in_default
+returns-in_default c = let h : false ≡ (eqb c.args.f.form 0 || eqb c.args.f.form 2) = search rules in h ∙ sym (plain_form c.args.f)

@@ -1,67 +1,53 @@
 -- `engine::run_operations` meets its contract. Assumes nothing.
 use mathlib.Core.Path.{◌≡◌, refl, ◌∙◌}
-use Prim.Native.Nat.{ℕ, suc, ◌-◌, ◌<◌}
+use Prim.Native.Nat.{suc, ◌+◌, ◌-◌}
 use native.Mathlib.Omega.{arith}
-use mathlib.Core.List.{List}
-use Rattle.model.specs.Execution.{Result, perform_all}
-use Rattle.statements.specs.Flat.{operation_is}
+use Rattle.model.specs.Execution.{perform_all}
 use Rattle.tuples.specs.Section.{tuples_of}
 use Rattle.bindings.specs.Variables.{bindings_of}
-use Rattle.operations.specs.Codes.{CanPerform}
-use Rattle.walk.specs.Walk.{operations_at}
-use Rattle.engine.specs.Ahead.{running_can, running_fails, running_turn, running_end}
+use Rattle.walk.specs.Walk.{operations_at, next_there}
+use Rattle.engine.specs.Ahead.{running_start, running_stands, running_can, running_fails, running_turn, running_end}
 use Rattle.engine.proofs.run_operations.Goals as goal
-use Rattle.engine.proofs.run_operations.Goals.{After-read_operation-r}
+use Rattle.engine.proofs.run_operations.Goals.{In-loop}
 
-module _ (c : After-read_operation-r) where
-  abbrev whole : Result
-  whole = let a = c.args in perform_all (operations_at a.body.now a.at a.count) (bindings_of a.v) (tuples_of a.tuples.now a.n)
+one_more : (c : In-loop) → c.args.count - c.loop.counter ≡ suc (c.args.count - (c.loop.counter + 1))
+one_more c = omega (arith, c.loop-test.true)
 
-  abbrev bytes : List ℕ
-  bytes = c.args.body.now
+pub loop-init : goal.loop-init
+loop-init c = let a = c.args in (refl, running_start a.body.now a.tuples.now a.n a.v a.at a.count c.requires.0 c.requires.1)
 
-  one_more : c.loop-left.left ≡ suc (c.loop-left.left - 1)
-  one_more = let pos : 0 < c.loop-left.left = c.loop-left-test.true in omega arith
-
-  can : CanPerform (bindings_of c.loop-left.w) (operation_is c.read_operation-r.result.operation)
-  can = running_can bytes whole c.loop-left.tuples c.loop-left.m c.loop-left.w c.loop-left.next c.loop-left.left c.loop-left.invariant.1 (c.loop-left.left - 1) one_more c.read_operation-r.result c.read_operation-r.ensures
-
-pub loop-left-init : goal.loop-left-init
-loop-left-init c = let pre = c.requires in (refl, record { section = pre.0; ahead = pre.1; same = refl })
+pub standing_operation-end-requires : goal.standing_operation-end-requires
+standing_operation-end-requires c = let l = c.loop in next_there c.args.body.now l.next _ (running_stands _ _ l.tuples l.m l.w l.next _ l.invariant.1 _ (one_more c))
 
 pub perform-d-requires : goal.perform-d-requires
-perform-d-requires c = (c.loop-left.invariant.1.section, c.read_operation-r.ensures.count, can (goal.at.perform-d-requires c).After-read_operation-r)
+perform-d-requires c =
+    let l = c.loop in (
+      l.invariant.1.section,
+      c.standing_operation-end.ensures.parts.count,
+      running_can _ _ l.tuples l.m l.w l.next _ l.invariant.1 _ (one_more (goal.at.perform-d-requires c).In-loop) c.standing_operation-end.result c.standing_operation-end.ensures,
+    )
 
 pub shape_of-tuples-then-d-ne0 : goal.shape_of-tuples-then-d-ne0
-shape_of-tuples-then-d-ne0 c = c.perform-d.auto.tuples ∙ c.loop-left.invariant.0
+shape_of-tuples-then-d-ne0 c = c.perform-d.auto.tuples ∙ c.loop.invariant.0
 
 pub returns-then-d-ne0 : goal.returns-then-d-ne0
 returns-then-d-ne0 c =
-    let l = c.loop-left in
-    running_fails (bytes (goal.at.returns-then-d-ne0 c).After-read_operation-r) (whole (goal.at.returns-then-d-ne0 c).After-read_operation-r) l.tuples l.m l.w l.next l.left l.invariant.1 (l.left - 1) (one_more (goal.at.returns-then-d-ne0 c).After-read_operation-r) c.read_operation-r.result c.read_operation-r.ensures
+    let l = c.loop in
+    running_fails _ _ l.tuples l.m l.w l.next _ l.invariant.1 _ (one_more (goal.at.returns-then-d-ne0 c).In-loop) c.standing_operation-end.result c.standing_operation-end.ensures
     c.perform-d.result.outcome c.perform-d.result.n c.perform-d.result.vars _ c.perform-d.ensures c.if-d-ne0.true
 
-pub overflow_sub-left : goal.overflow_sub-left
-overflow_sub-left c =
-    c.loop-left-test.true
-
-pub loop-left-smaller : goal.loop-left-smaller
-loop-left-smaller c =
-    let pos : 0 < c.loop-left.left = c.loop-left-test.true in omega arith
-
-pub loop-left-preserved : goal.loop-left-preserved
-loop-left-preserved c =
-    let l = c.loop-left in (
+pub loop-preserved : goal.loop-preserved
+loop-preserved c =
+    let l = c.loop in (
       c.perform-d.auto.tuples ∙ l.invariant.0,
-      running_turn (bytes (goal.at.loop-left-preserved c).After-read_operation-r) (whole (goal.at.loop-left-preserved c).After-read_operation-r) l.tuples l.m l.w l.next l.left l.invariant.1 (l.left - 1) (one_more (goal.at.loop-left-preserved c).After-read_operation-r) c.read_operation-r.result c.read_operation-r.ensures
+      running_turn _ _ l.tuples l.m l.w l.next _ l.invariant.1 _ (one_more (goal.at.loop-preserved c).In-loop) c.standing_operation-end.result c.standing_operation-end.ensures
           c.perform-d.result.outcome c.perform-d.result.n c.perform-d.result.vars _ c.perform-d.ensures c.if-d-ne0.false,
     )
 
 pub shape_of-tuples : goal.shape_of-tuples
-shape_of-tuples c = c.loop-left.invariant.0
+shape_of-tuples c = c.loop.invariant.0
 
 pub returns : goal.returns
 returns c =
-    let l = c.loop-left in
-    let end : l.left ≡ 0 = omega (arith, c.loop-left-test.false) in
-    running_end _ _ l.tuples l.m l.w l.next l.left l.invariant.1 end
+    let l = c.loop in
+    running_end _ _ l.tuples l.m l.w l.next _ l.invariant.1 (omega (arith, c.loop-test.false))

@@ -1,5 +1,6 @@
 -- `engine::run_operations` meets its contract. Assumes nothing.
 use mathlib.Core.Path.{◌≡◌}
+use Prim.Native.Nat.{◌-◌}
 use lib.ListN.{length}
 use Rattle.model.specs.Execution.{perform_all}
 use Rattle.tuples.specs.Section.{tuples_of}
@@ -8,8 +9,5 @@ use Rattle.walk.specs.Walk.{operations_at}
 use Rattle.engine.specs.Ahead.{Running}
 use Rattle.engine.proofs.run_operations.Given as goal
 
-abbrev pub invariant-loop-left : goal.invariant-loop-left
-invariant-loop-left l = (length l.tuples ≡ length l.initial.tuples) × Running l.body (perform_all (operations_at l.body l.at l.count) (bindings_of l.initial.w) (tuples_of l.initial.tuples l.n)) l.tuples l.m l.w l.next l.left
-
-abbrev pub decreases-loop-left : goal.decreases-loop-left
-decreases-loop-left l = l.left
+abbrev pub invariant-loop : goal.invariant-loop
+invariant-loop l = (length l.tuples ≡ length l.initial.tuples) × Running l.body (perform_all (operations_at l.body l.at l.count) (bindings_of l.initial.w) (tuples_of l.initial.tuples l.n)) l.tuples l.m l.w l.next (l.count - l.counter)

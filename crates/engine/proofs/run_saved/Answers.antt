@@ -21,15 +21,11 @@ copy_rows-requires c =
     let few = c.requires.0.few in
     (omega arith, omega arith)
 
-pub larger-requires : goal.larger-requires
-larger-requires c =
-    let few = c.requires.0.few in
-    let left = c.run_branch-d.ensures.0.section.few in
-    (omega arith, omega arith)
-
 pub copy_rows-requires-then-d-ne0 : goal.copy_rows-requires-then-d-ne0
 copy_rows-requires-then-d-ne0 c =
-    let l = c.larger.ensures.2 in
+    let l = c.max.ensures in
+    let few = c.requires.0.few in
+    let left = c.run_branch-d.ensures.0.section.few in
     let long = holds_length tuple_shape _ _ _ c.requires.0 in
     let same = c.run_branch-d.auto.tuples in
     let kept = ap length (saved (goal.at.copy_rows-requires-then-d-ne0 c).After-run_branch-d) in
@@ -41,8 +37,8 @@ shape_of-tuples-then-d-ne0 c = c.copy_rows-then-d-ne0.auto.d ∙ c.run_branch-d.
 pub returns-then-d-ne0 : goal.returns-then-d-ne0
 returns-then-d-ne0 c =
     let r = c.run_branch-d.result in
-    whole_failed _ (tuples_of c.args.tuples.now c.args.n) r.outcome r.n r.vars c.run_branch-d.new.tuples c.run_branch-d.ensures.0 c.if-d-ne0.true c.args.tuples.now _ _ c.args.n c.larger.result
-    c.requires.0 (saved (goal.at.returns-then-d-ne0 c).After-run_branch-d) c.larger.ensures.0 c.larger.ensures.1 c.copy_rows-then-d-ne0.ensures
+    whole_failed _ (tuples_of c.args.tuples.now c.args.n) r.outcome r.n r.vars c.run_branch-d.new.tuples c.run_branch-d.ensures.0 c.if-d-ne0.true c.args.tuples.now _ _ c.args.n c.max.result
+    c.requires.0 (saved (goal.at.returns-then-d-ne0 c).After-run_branch-d) (omega (arith, c.max.ensures)) (omega (arith, c.max.ensures)) c.copy_rows-then-d-ne0.ensures
 
 pub shape_of-tuples : goal.shape_of-tuples
 shape_of-tuples c = c.run_branch-d.auto.tuples

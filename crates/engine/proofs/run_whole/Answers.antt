@@ -15,7 +15,7 @@ module _ (c : After-size) where
   bytes = c.args.body.now
 
   abbrev from : ℕ
-  from = c.args.guard.end + count_width
+  from = c.args.guard.1 + count_width
 
 pub cannot_fail-requires : goal.cannot_fail-requires
 cannot_fail-requires c = subst (Operations (bytes c) (from c)) (sym c.size.ensures.0) c.requires.1.due.stands

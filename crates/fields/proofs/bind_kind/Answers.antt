@@ -9,21 +9,16 @@ use Rattle.fields.specs.Kinds.{kinds_are, kinds_set}
 use Rattle.fields.specs.FieldLaws.{binder_parts}
 use Rattle.fields.proofs.bind_kind.Goals as goal
 
-pub overflow_add-kinds : goal.overflow_add-kinds
-overflow_add-kinds c =
-    let b : Binder = binder_in c.args.f in
-    omega (arith, (binder_parts (kinds_are c.args.now) b (c.requires b (binds_some c.args.f c.binds.result c.binds.ensures c.if-binds.true))).0)
-
 pub bounds-kinds-size : goal.bounds-kinds-size
 bounds-kinds-size c =
     let b : Binder = binder_in c.args.f in
-    omega (arith, (binder_parts (kinds_are c.args.now) b (c.requires b (binds_some c.args.f c.binds.result c.binds.ensures c.if-binds.true))).1, c.size.ensures.0)
+    omega (arith, (binder_parts (kinds_are c.args.now.now) b (c.requires b (binds_some c.args.f c.binds.result c.binds.ensures c.if-binds.true))).1, c.size.ensures.0)
 
 pub returns-then-binds : goal.returns-then-binds
 returns-then-binds c =
     let e = binds_some c.args.f c.binds.result c.binds.ensures c.if-binds.true in
-    rw c.size.ensures.0 (kinds_set c.args.now c.args.f.variable c.args.f.kind ∙ sym (laws.kinds_set (kinds_are c.args.now) (field_is c.args.f) (binder_in c.args.f) e))
+    rw c.size.ensures.0 (kinds_set c.args.now.now c.args.f.variable c.args.f.kind ∙ sym (laws.kinds_set (kinds_are c.args.now.now) (field_is c.args.f) (binder_in c.args.f) e))
 
 pub returns-else-binds : goal.returns-else-binds
 returns-else-binds c =
-    sym (laws.kinds_left (kinds_are c.args.now) (field_is c.args.f) (binds_none c.args.f c.binds.result c.binds.ensures c.if-binds.false))
+    sym (laws.kinds_left (kinds_are c.args.now.now) (field_is c.args.f) (binds_none c.args.f c.binds.result c.binds.ensures c.if-binds.false))

@@ -16,8 +16,7 @@ pub returns-in-5 : goal.returns-in-5
 returns-in-5 c = allows_anonymous c.args.code c.args.form c.in-5.is
 
 pub returns-in-3 : goal.returns-in-3
-returns-in-3 c = let r = c.in-3.in_default-own.rest in
-    allows_sum c.args.code c.args.form (omega (arith, r.0.0.0.1, r.0.0.1, r.0.1)) c.in-3.if-form-lt5-own.true
+returns-in-3 c = allows_sum c.args.code c.args.form (omega arith) (omega arith)
 
 pub returns-in_default : goal.returns-in_default
-returns-in_default c = allows_range c.args.code c.args.form (omega (arith, c.in_default.in_default-own.rest.1, c.in_default.if-form-lt5-own.false))
+returns-in_default c = allows_range c.args.code c.args.form (omega arith)

@@ -1,10 +1,6 @@
 -- `meeting::templates_meet` meets its contract. Assumes nothing.
-use Prim.Native.Nat.{◌-◌}
 use Rattle.meeting.specs.Meets.{Meeting}
 use Rattle.meeting.proofs.templates_meet.Given as goal
 
 abbrev pub invariant-loop-i : goal.invariant-loop-i
-invariant-loop-i l = Meeting l.a l.b l.n l.i
-
-abbrev pub decreases-loop-i : goal.decreases-loop-i
-decreases-loop-i l = l.n - l.i
+invariant-loop-i l = Meeting l.a l.b l.a.count l.i

@@ -15,7 +15,7 @@ pub execute-ran-requires : goal.execute-ran-requires
 execute-ran-requires c =
     let b = c.args.state.now in
     let n = c.tuple_count-n.result in
-    (is_section b n c.requires.0 c.tuple_count-n.ensures.0, c.requires.1.legal, rw (tuples_read b n c.requires.0 c.tuple_count-n.ensures.0) c.requires.2.0, c.requires.2.1)
+    (is_section b n c.requires.0 c.tuple_count-n.ensures.0, c.requires.1.legal, rw (tuples_read b n c.requires.0 c.tuple_count-n.ensures.0) c.requires.2)
 
 pub set_tuple_count-requires : goal.set_tuple_count-requires
 set_tuple_count-requires c =

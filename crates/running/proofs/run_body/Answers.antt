@@ -1,17 +1,25 @@
 -- `running::run_body` meets its contract. Assumes nothing.
 use native.Mathlib.Omega.{arith}
+use mathlib.Core.Path.{subst}
+use Rattle.model.specs.Execution.{chosen}
 use Rattle.layout.specs.States.{decode}
 use Rattle.layout.specs.Stored.{statement_of}
+use Rattle.walk.specs.Choosing.{Chooses}
 use Rattle.running.specs.Answers.{run_none}
 use Rattle.running.proofs.run_body.Goals as goal
 
-pub choose_in-choice-requires : goal.choose_in-choice-requires
-choose_in-choice-requires c = (c.requires.0, c.requires.1.legal)
+pub choose_in-requires : goal.choose_in-requires
+choose_in-requires c = (c.requires.0, c.requires.1.legal)
 
-pub returns-then-choice-eq0 : goal.returns-then-choice-eq0
-returns-then-choice-eq0 c = let a = c.args in
-    let r = c.choose_in-choice.result in
-    (run_none (decode a.state.now) a.position (statement_of a.body.now) a.state.now a.body.now a.out.now r.branch r.at r.tuple c.requires.0 c.choose_in-choice.ensures c.if-choice-eq0.true, omega arith)
+pub returns-in_default : goal.returns-in_default
+returns-in_default c =
+    let a = c.args in
+    let s = decode a.state.now in
+    let st = statement_of a.body.now in
+    (run_none s a.position st a.state.now a.out.now c.requires.0 (subst (Chooses a.body.now s.tuples (chosen s.tuples st)) c.in_default.is c.choose_in.ensures), omega arith)
 
 pub run_chosen-requires : goal.run_chosen-requires
-run_chosen-requires c = (c.requires.0, c.requires.1, (c.choose_in-choice.ensures, c.if-choice-eq0.false), c.requires.2)
+run_chosen-requires c =
+    let a = c.args in
+    let s = decode a.state.now in
+    (c.requires.0, c.requires.1, subst (Chooses a.body.now s.tuples (chosen s.tuples (statement_of a.body.now))) c.in-Some.is c.choose_in.ensures, c.requires.2)

@@ -1,23 +1,24 @@
 -- `statements::field_end` meets its contract. Assumes nothing.
-use mathlib.Core.Path.{sym, ◌∙◌}
+use mathlib.Core.Path.{sym, ap, ◌∙◌}
 use native.Mathlib.Omega.{arith}
-use Rattle.statements.specs.Fields.{end_past, end_no_form, end_short, end_there}
+use Rattle.std.proofs.Common.{ltb-false}
+use Rattle.statements.specs.Fields.{width_of, end_past, end_no_form, end_short, end_there}
 use Rattle.statements.proofs.field_end.Goals as goal
 
+pub returns-in_err-get : goal.returns-in_err-get
+returns-in_err-get c = let h = c.in_err-get.ensures in rw c.from_residual.ensures (sym (end_past _ _ (ltb-false _ _ (sym h.lookup.0))))
+
+pub returns-in_err-width : goal.returns-in_err-width
+returns-in_err-width c = let h = c.in_ok-get.ensures.lookup.3 in
+    let w = c.in_err-width.ensures in
+    rw c.from_residual-in_err-width.ensures (sym (end_no_form _ _ h.0 (ap width_of (sym (h.1 0)) ∙ sym w)))
+
 pub returns-then-b-at : goal.returns-then-b-at
-returns-then-b-at c = sym (end_past _ _ c.if-b-at.true)
-
-pub returns-then-width-eq0 : goal.returns-then-width-eq0
-returns-then-width-eq0 c = let w = c.field_width-width.ensures in
-    let f = c.if-b-at.false in
-    sym (end_no_form _ _ f (sym w ∙ c.if-width-eq0.true))
-
-pub returns-then-b-at-2 : goal.returns-then-b-at-2
-returns-then-b-at-2 c = let w = c.field_width-width.ensures in
-    let f = c.if-b-at.false in
-    sym (end_short _ _ f (omega (arith, w, c.if-width-eq0.false)) (omega (arith, w, f, c.if-b-at-2.true)))
+returns-then-b-at c = let h = c.in_ok-get.ensures.lookup.3 in
+    let w = c.in_ok-width.ensures in
+    sym (end_short _ _ c.in_ok-width.width h.0 (ap width_of (sym (h.1 0)) ∙ sym w) (omega (arith, h.0, c.if-b-at.true)))
 
 pub returns : goal.returns
-returns c = let w = c.field_width-width.ensures in
-    let f = c.if-b-at.false in
-    rw w (sym (end_there _ _ (omega (arith, w, c.if-width-eq0.false)) (omega (arith, w, f, c.if-b-at-2.false))))
+returns c = let h = c.in_ok-get.ensures.lookup.3 in
+    let w = c.in_ok-width.ensures in
+    sym (end_there _ _ (record { width = c.in_ok-width.width; is = ap width_of (sym (h.1 0)) ∙ sym w; fits = omega (arith, h.0, c.if-b-at.false) }))

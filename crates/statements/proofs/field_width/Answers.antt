@@ -25,8 +25,7 @@ unfolding width_of
 returns-in-6 c = sym (ap width_of c.in-6.is)
 
 pub returns-in-3 : goal.returns-in-3
-returns-in-3 c = let r = c.in-3.in_default-own.rest in
-    sym (width_sum c.args.form (omega (arith, r.0.0.0.0.1, r.0.0.0.1, r.0.0.1)) c.in-3.if-form-lt5-own.true)
+returns-in-3 c = sym (width_sum c.args.form (omega arith) (omega arith))
 
 pub returns-in_default : goal.returns-in_default
-returns-in_default c = let r = c.in_default.in_default-own.rest in sym (width_past c.args.form (omega (arith, r.0.1, r.1, c.in_default.if-form-lt5-own.false)))
+returns-in_default c = sym (width_past c.args.form (omega arith))

@@ -1,13 +1,18 @@
 -- `statements::pass_operation` meets its contract. Assumes nothing.
-use mathlib.Core.Path.{refl, sym, ap, ◌∙◌}
-use Rattle.statements.specs.At.{found_none}
-use Rattle.statements.specs.Front.{bare_at, bare_is, no_fields, fields_passed}
+use Rattle.statements.specs.Front.{bare_at, fields_passed}
+use Rattle.std.proofs.Math.Option.{none, some}
 use Rattle.statements.proofs.pass_operation.Goals as goal
 
-pub returns-then-f-eq0 : goal.returns-then-f-eq0
-unfolding bare_is bare_at
-returns-then-f-eq0 c = found_none 0 _ refl ∙ sym (ap bare_at (no_fields c.read_front-f.result c.args.b.now _ c.read_front-f.ensures c.if-f-eq0.true))
+pub returns-in_err-f : goal.returns-in_err-f
+unfolding bare_at
+returns-in_err-f c = let e = c.in_err-f.ensures in rw (c.from_residual.ensures, ← e)
+
+pub returns-in_err-end : goal.returns-in_err-end
+returns-in_err-end c = let h = c.in_ok-f.ensures in
+    let e = c.in_err-end.ensures in
+    rw c.from_residual-in_err-end.ensures (fields_passed c.in_ok-f.f c.args.b.now _ h none e)
 
 pub returns : goal.returns
-unfolding bare_is
-returns c = fields_passed c.read_front-f.result c.args.b.now _ c.read_front-f.ensures c.if-f-eq0.false c.fields_end.result c.fields_end.ensures
+returns c = let h = c.in_ok-f.ensures in
+    let e = c.in_ok-end.ensures in
+    fields_passed c.in_ok-f.f c.args.b.now _ h (some c.in_ok-end.end) e

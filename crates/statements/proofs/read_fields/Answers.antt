@@ -1,23 +1,29 @@
 -- `statements::read_fields` meets its contract. Assumes nothing.
-use mathlib.Core.Path.{refl}
+use native.Mathlib.Omega.{arith}
 use Rattle.basis.specs.Sizes.{most_fields}
 use Rattle.statements.specs.Flat.{has_form}
-use Rattle.statements.specs.Several.{all_replicate, fields_start, fields_turn, fields_stop, fields_done}
+use Rattle.statements.specs.Several.{all_replicate, all_drop, blank_form, fields_start, fields_turn, fields_stop, fields_done}
 use Rattle.statements.proofs.read_fields.Goals as goal
 
-pub loop-i-init : goal.loop-i-init
-loop-i-init c = fields_start _ _ _ _ c.requires.1 c.requires.2 refl (all_replicate has_form most_fields _ c.no_field-none.ensures)
+pub loop-field-init : goal.loop-field-init
+loop-field-init c = fields_start _ _ _ _ c.requires.1 c.requires.0 (all_replicate has_form most_fields _ (blank_form _ c.default-fields.ensures.0))
 
-pub returns-then-next-eq0 : goal.returns-then-next-eq0
-returns-then-next-eq0 c = (
-  fields_stop c.args.b.now c.args.at c.args.count c.loop-i.fields c.loop-i.fields c.loop-i.end c.loop-i.i c.read_field-r.result
-      c.loop-i-test.true c.loop-i.invariant c.read_field-r.ensures.0 c.if-next-eq0.true,
-  c.loop-i.invariant.formed,
-)
+pub returns-in_err-field : goal.returns-in_err-field
+returns-in_err-field c = let e = c.in_err-field.ensures in
+    let w = c.loop-field.invariant in
+    rw c.from_residual.ensures (
+      fields_stop c.args.b.now c.args.at c.args.count c.loop-field.field-items c.loop-field.end c.loop-field.field-index
+          (omega (arith, c.loop-field-test.true, c.loop-field.auto.field-items, w.room)) w e.0,
+      tt,
+    )
 
-pub loop-i-preserved : goal.loop-i-preserved
-loop-i-preserved c = fields_turn c.args.b.now c.args.at c.args.count c.loop-i.fields c.loop-i.end c.loop-i.i c.read_field-r.result
-    c.requires.0 c.loop-i-test.true c.loop-i.invariant c.read_field-r.ensures.0 c.read_field-r.ensures.1 c.if-next-eq0.false
+pub loop-field-preserved : goal.loop-field-preserved
+loop-field-preserved c = let e = c.in_ok-field.ensures in
+    let w = c.loop-field.invariant in
+    fields_turn c.args.b.now c.args.at c.args.count c.loop-field.field-items c.loop-field.end c.loop-field.field-index (c.in_ok-field.field-0-0, c.in_ok-field.field-0-1)
+    (omega (arith, c.loop-field-test.true, c.loop-field.auto.field-items, w.room)) w e.0 e.1
 
 pub returns : goal.returns
-returns c = (fields_done c.args.b.now c.args.at c.args.count c.loop-i.fields c.loop-i.end c.loop-i.i c.loop-i-test.false c.loop-i.invariant, c.loop-i.invariant.formed)
+returns c = let w = c.loop-field.invariant in
+    fields_done c.args.b.now c.args.at c.args.count c.loop-field.field-items _ c.loop-field.end c.loop-field.field-index (omega (arith, c.loop-field-test.false, c.loop-field.auto.field-items, w.room)) w
+    (all_drop has_form c.args.count _ (all_replicate has_form most_fields _ (blank_form _ c.default-fields.ensures.0)))

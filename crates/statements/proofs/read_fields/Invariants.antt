@@ -1,10 +1,6 @@
 -- `statements::read_fields` meets its contract. Assumes nothing.
-use Prim.Native.Nat.{◌-◌}
 use Rattle.statements.specs.Several.{Underway}
 use Rattle.statements.proofs.read_fields.Given as goal
 
-abbrev pub invariant-loop-i : goal.invariant-loop-i
-invariant-loop-i l = Underway l.b l.at l.count l.fields l.end l.i
-
-abbrev pub decreases-loop-i : goal.decreases-loop-i
-decreases-loop-i l = l.count - l.i
+abbrev pub invariant-loop-field : goal.invariant-loop-field
+invariant-loop-field l = Underway l.b l.at l.count l.field-items l.end l.field-index

@@ -1,5 +1,4 @@
 -- `waiting::all_may_wait` meets its contract. Assumes nothing.
-use Prim.Native.Nat.{◌-◌}
 use Rattle.basis.specs.Numbers.{bits}
 use Rattle.basis.specs.Sizes.{hosts}
 use Rattle.scans.specs.Tests.{Passing}
@@ -11,6 +10,3 @@ use Rattle.waiting.proofs.all_may_wait.Given as goal
 
 abbrev pub invariant-loop-i : goal.invariant-loop-i
 invariant-loop-i l = Passing (keeps_waiting (bits hosts l.up) (spaces_of l.spaces l.m) (tuples_of l.tuples l.k)) (waiting_of l.waiting l.n) 0 l.i
-
-abbrev pub decreases-loop-i : goal.decreases-loop-i
-decreases-loop-i l = l.n - l.i

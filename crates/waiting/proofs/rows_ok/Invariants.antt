@@ -1,5 +1,4 @@
 -- `waiting::rows_ok` meets its contract. Assumes nothing.
-use Prim.Native.Nat.{◌-◌}
 use Rattle.basis.specs.Lists.{pieces}
 use Rattle.basis.specs.Sizes.{waiting_size}
 use Rattle.scans.specs.Tests.{Passing}
@@ -7,7 +6,4 @@ use Rattle.queue.specs.Legal.{row_legal}
 use Rattle.waiting.proofs.rows_ok.Given as goal
 
 abbrev pub invariant-loop-i : goal.invariant-loop-i
-invariant-loop-i l = Passing (row_legal) (pieces l.n waiting_size l.waiting) 0 l.i
-
-abbrev pub decreases-loop-i : goal.decreases-loop-i
-decreases-loop-i l = l.n - l.i
+invariant-loop-i l = Passing row_legal (pieces l.n waiting_size l.waiting) 0 l.i

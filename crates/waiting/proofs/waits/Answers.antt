@@ -1,57 +1,55 @@
 -- `waiting::waits` meets its contract. Assumes nothing.
-use Prim.Native.Nat.{◌-◌, ◌<◌}
+use mathlib.Core.Path.{◌≡◌, subst}
+use Prim.Native.Nat.{suc, ◌+◌, ◌-◌}
+use mathlib.Core.Bool.{◌||◌}
+use lib.Dec.{eqb}
 use native.Mathlib.Omega.{arith}
-use mathlib.Core.List.{List}
-use Rattle.model.specs.Run.{Space}
-use Rattle.model.specs.Matching.{Tuple}
-use Rattle.walk.specs.Walk.{ReadBranch, body_is}
-use Rattle.tuples.specs.Section.{tuples_of}
-use Rattle.spaces.specs.Spaces.{spaces_of}
-use Rattle.waiting.specs.Walking.{walking_start, reading, walking_guard, walking_shut, walking_holds, walking_turn, walking_end}
+use lib.ListN.{get_or}
+use Rattle.basis.specs.Sizes.{branch_count_at}
+use Rattle.walk.specs.Walk.{body_is, branch_there}
+use Rattle.names.specs.Named.{PastBranch}
+use Rattle.waiting.specs.Walking.{walking_start, walking_ahead, reading, walking_guard, walking_shut, walking_holds, walking_turn, walking_end}
 use Rattle.waiting.proofs.waits.Goals as goal
-use Rattle.waiting.proofs.waits.Goals.{After-read_operation-read}
+use Rattle.waiting.proofs.waits.Goals.{In-loop, then-blocking, else-blocking}
 
--- a guard was read
-module _ (c : After-read_operation-read) where
-  abbrev listed : List Space
-  listed = spaces_of c.args.spaces.now c.args.n
-
-  abbrev present : List Tuple
-  present = tuples_of c.args.tuples.now c.args.m
-
-  -- a branch is left
-  some : 0 < c.loop-left.left
-  some = omega (arith, c.loop-left-test.true)
-
-  here : ReadBranch c.args.body.now c.loop-left.at (c.loop-left.left - 1) c.read_operation-read.result
-  here = let l = c.loop-left in reading listed present c.args.process _ _ l.at l.left l.blocks l.invariant c.read_operation-read.result c.read_operation-read.ensures some
+one_more : (c : In-loop) → get_or c.args.body.now branch_count_at 0 - c.loop.counter ≡ suc (get_or c.args.body.now branch_count_at 0 - (c.loop.counter + 1))
+one_more c = omega (arith, c.loop-test.true)
 
 pub bounds-body-3 : goal.bounds-body-3
 bounds-body-3 c = omega (arith, (body_is c.args.body.now c.requires.0).long)
 
-pub loop-left-init : goal.loop-left-init
-loop-left-init c = walking_start _ _ _ c.args.body.now c.requires.0
+pub loop-init : goal.loop-init
+loop-init c = walking_start _ _ _ c.args.body.now c.requires.0
 
-pub pass_branch-at-requires : goal.pass_branch-at-requires
-pass_branch-at-requires c = ((here (goal.at.pass_branch-at-requires c).After-read_operation-read).0.long, (here (goal.at.pass_branch-at-requires c).After-read_operation-read).0.body, c.requires.1, c.requires.2)
+pub standing_operation-end-requires : goal.standing_operation-end-requires
+standing_operation-end-requires c = branch_there _ c.loop.at _ (walking_ahead _ _ _ _ _ c.loop.at _ _ c.loop.invariant _ (one_more c))
 
-pub returns-then-at-eq0 : goal.returns-then-at-eq0
-returns-then-at-eq0 c = let l = c.loop-left in
-    walking_shut (listed (goal.at.returns-then-at-eq0 c).After-read_operation-read) (present (goal.at.returns-then-at-eq0 c).After-read_operation-read) c.args.process _ _ l.at l.left l.blocks l.invariant c.read_operation-read.result c.read_operation-read.ensures (some (goal.at.returns-then-at-eq0 c).After-read_operation-read) _ c.pass_branch-at.ensures c.if-at-eq0.true
+pub pass_branch-requires : goal.pass_branch-requires
+pass_branch-requires c =
+    let here = reading _ _ _ _ _ c.loop.at _ _ c.loop.invariant _ (one_more (goal.at.pass_branch-requires c).In-loop) c.standing_operation-end.result c.standing_operation-end.ensures in
+    (here.0.long, here.0.body, c.requires.1, c.requires.2)
+
+pub returns-in_default : goal.returns-in_default
+returns-in_default c =
+    walking_shut _ _ _ _ _ c.loop.at _ _ c.loop.invariant _ (one_more (goal.at.returns-in_default c).In-loop) c.standing_operation-end.result c.standing_operation-end.ensures
+    (subst (PastBranch _ _ _ _) c.in_default.is c.pass_branch.ensures)
 
 pub holds-requires : goal.holds-requires
-holds-requires c = let l = c.loop-left in
-    (c.requires.3, omega (arith, c.requires.4), walking_guard (listed (goal.at.holds-requires c).After-read_operation-read) (present (goal.at.holds-requires c).After-read_operation-read) c.args.process _ _ l.at l.left l.blocks l.invariant c.read_operation-read.result c.read_operation-read.ensures (some (goal.at.holds-requires c).After-read_operation-read), c.read_operation-read.ensures.count)
+holds-requires c =
+    (c.requires.3, c.requires.4, walking_guard _ _ _ _ _ c.loop.at _ _ c.loop.invariant _ (one_more (goal.at.holds-requires c).In-loop) c.standing_operation-end.result c.standing_operation-end.ensures, c.standing_operation-end.ensures.parts.count)
 
 pub returns-then-holds : goal.returns-then-holds
-returns-then-holds c = let l = c.loop-left in
-    walking_holds (listed (goal.at.returns-then-holds c).After-read_operation-read) (present (goal.at.returns-then-holds c).After-read_operation-read) c.args.process _ _ l.at l.left l.blocks l.invariant c.read_operation-read.result c.read_operation-read.ensures (some (goal.at.returns-then-holds c).After-read_operation-read) _ c.pass_branch-at.ensures c.if-at-eq0.false
-    _ c.holds.ensures c.if-holds.true
+returns-then-holds c =
+    walking_holds _ _ _ _ _ c.loop.at _ _ c.loop.invariant _ (one_more (goal.at.returns-then-holds c).In-loop) c.standing_operation-end.result c.standing_operation-end.ensures
+    c.in-Some.next (subst (PastBranch _ _ _ _) c.in-Some.is c.pass_branch.ensures) _ c.holds.ensures c.if-holds.true
 
-pub loop-left-preserved : goal.loop-left-preserved
-loop-left-preserved c = let l = c.loop-left in
-    walking_turn (listed (goal.at.loop-left-preserved c).After-read_operation-read) (present (goal.at.loop-left-preserved c).After-read_operation-read) c.args.process _ _ l.at l.left l.blocks l.invariant c.read_operation-read.result c.read_operation-read.ensures (some (goal.at.loop-left-preserved c).After-read_operation-read) _ c.pass_branch-at.ensures c.if-at-eq0.false
-    _ c.holds.ensures c.if-holds.false _ c.some_blocks-blocks.ensures
+pub loop-preserved : goal.loop-preserved
+loop-preserved c =
+    let code = c.standing_operation-end.result.0.code in
+    let now : c.if-blocking.blocking ≡ (c.loop.blocking || (eqb code 1 || eqb code 3)) =
+    elim c.if-blocking.branch [ then-blocking w ↦ rw (w.blocking-is, w.if-blocking.true) | else-blocking w ↦ rw (w.blocking-is, w.if-blocking.false, w.is_blocking-blocking.ensures) ] in
+    walking_turn _ _ _ _ _ c.loop.at _ _ c.loop.invariant _ (one_more (goal.at.loop-preserved c).In-loop) c.standing_operation-end.result c.standing_operation-end.ensures
+    c.in-Some.next (subst (PastBranch _ _ _ _) c.in-Some.is c.pass_branch.ensures) _ c.holds.ensures c.if-holds.false c.if-blocking.blocking now
 
 pub returns : goal.returns
-returns c = let l = c.loop-left in walking_end _ _ _ _ _ l.at l.left l.blocks l.invariant c.loop-left-test.false
+returns c = walking_end _ _ _ _ _ c.loop.at _ _ c.loop.invariant (omega (arith, c.loop-test.false))
