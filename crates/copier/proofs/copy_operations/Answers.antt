@@ -1,28 +1,32 @@
 -- `copier::copy_operations` meets its contract. Assumes nothing.
-use mathlib.Core.Path.{◌≡◌, refl, subst, ◌∙◌}
-use Prim.Native.Nat.{ℕ, suc, ◌<◌, ◌-◌}
-use native.Mathlib.Omega.{arith}
-use Rattle.rewriter.specs.Copying.{Underway, operation_turn}
+use Rattle.std.proofs.Common.{◌≡◌, ℕ, suc, ◌+◌, ◌-◌, ◌<◌, List, subst, arith}
+use Rattle.rewriter.specs.Copying.{Underway, Fills, fills_at, fills_ok, operation_turn}
 use Rattle.copier.proofs.copy_operations.Goals as goal
 
-pub loop-left-init : goal.loop-left-init
-loop-left-init c = (refl, λ buffer later u. u)
+-- an operation is left: it and the others
+one_more : (b buffer : List ℕ) (at i n later fill : ℕ) (out : List ℕ) → i < n → Underway b buffer at (n - i) later fill out → Underway b buffer at (suc (n - (i + 1))) later fill out
+one_more b buffer at i n later fill out h u =
+    let e : n - i ≡ suc (n - (i + 1)) = omega arith in
+    subst (λ (m : ℕ). Underway b buffer at m later fill out) e u
 
-pub loop-left-preserved : goal.loop-left-preserved
-loop-left-preserved c =
-    let a = c.args in
-    let pos : 0 < c.loop-left.left = c.loop-left-test.true in
-    let more : c.loop-left.left ≡ suc (c.loop-left.left - 1) = omega arith in (
-      c.operation_at-a.auto.buffer ∙ c.loop-left.invariant.0,
-      λ buffer later u. operation_turn a.body.now buffer c.loop-left.next (c.loop-left.left - 1) later c.loop-left.filled c.loop-left.out
-          (subst (λ (n : ℕ). Underway a.body.now buffer c.loop-left.next n later c.loop-left.filled c.loop-left.out) more (c.loop-left.invariant.1 buffer later u))
-          c.read_operation-r.result c.read_operation-r.ensures c.operation_at-a.result c.operation_at-a.new.buffer c.operation_at-a.ensures,
-    )
+pub loop-init : goal.loop-init
+loop-init c buffer later u =
+    let all : c.args.count ≡ c.args.count - 0 = omega arith in
+    subst (λ (n : ℕ). Underway c.args.body.now buffer c.args.at n later c.args.fill c.args.out.now) all u
 
-pub shape_of-out : goal.shape_of-out
-shape_of-out c = c.loop-left.invariant.0
+pub unwrap-filled-requires : goal.unwrap-filled-requires
+unwrap-filled-requires c =
+    let h = c.requires in
+    fills_ok (operation_turn c.args.body.now h.0 c.loop.next (c.args.count - (c.loop.counter + 1)) h.1 c.loop.filled c.loop.out
+        (one_more _ _ _ _ _ _ _ _ c.loop-test.true (c.loop.invariant h.0 h.1 h.2)) c.read_operation-r.result c.read_operation-r.ensures c.operation_at.result c.operation_at.new.buffer c.operation_at.ensures)
+
+pub loop-preserved : goal.loop-preserved
+loop-preserved c buffer later u =
+    fills_at (operation_turn c.args.body.now buffer c.loop.next (c.args.count - (c.loop.counter + 1)) later c.loop.filled c.loop.out
+        (one_more _ _ _ _ _ _ _ _ c.loop-test.true (c.loop.invariant buffer later u)) c.read_operation-r.result c.read_operation-r.ensures c.operation_at.result c.operation_at.new.buffer c.operation_at.ensures)
+    c.unwrap-filled.result c.unwrap-filled.ensures
 
 pub returns : goal.returns
 returns c buffer later u =
-    let end : c.loop-left.left ≡ 0 = omega (arith, c.loop-left-test.false) in
-    subst (λ (n : ℕ). Underway c.args.body.now buffer c.loop-left.next n later c.loop-left.filled c.loop-left.out) end (c.loop-left.invariant.1 buffer later u)
+    let end : c.args.count - c.loop.counter ≡ 0 = omega (arith, c.loop-test.false) in
+    subst (λ (n : ℕ). Underway c.args.body.now buffer c.loop.next n later c.loop.filled c.loop.out) end (c.loop.invariant buffer later u)
