@@ -1,6 +1,6 @@
 -- The answer that the composed bytes get is the answer to the addition. Assumes nothing.
-use Rattle.std.specs.Prelude.{◌≡◌, Bool, true, ◌&&◌, cond, List, ℕ, length, leb}
-use Rattle.std.proofs.Math.Path.{refl}
+use Rattle.std.specs.Prelude.{◌≡◌, Bool, true, ◌&&◌, cond, List, ℕ, length, leb, Ok, Err}
+use Rattle.std.proofs.Math.Path.{refl, ap}
 use Rattle.std.proofs.Common.{◌∙◌, true≢false}
 use Rattle.std.proofs.Math.Bool.{false}
 use Rattle.std.proofs.Math.Option.{Option, none, some}
@@ -14,10 +14,12 @@ use Rattle.model.specs.Writing.{statement_bytes}
 use Rattle.model.proofs.RoundTrip.{FitsStatement, reads_whole, reads_statement, legal_fits}
 use Rattle.statements.specs.declared.Operation.{Operation}
 use Rattle.statements.specs.Flat.{operation_is}
-use Rattle.writer.specs.Writer.{is_handed, handed, begun, Written, is_writable, refused_by, written, held, begin_on, add_to}
+use Rattle.writer.specs.declared.WriteError.{WriteError}
+use Rattle.writer.specs.Writer.{is_handed, handed, begun, Written, added, written_is, is_writable, refused_by, written, held, begin_on, add_to}
 use Rattle.composer.specs.Grown.{Grows}
-use Rattle.answers.specs.Settled.{settled}
+use Rattle.answers.specs.Settled.{settled, refused_is}
 use Rattle.composer.specs.Composed.{Begun, Composed}
+use Rattle.additions.specs.Addable.{Addable}
 use Rattle.writer.specs.HeldLaws.{handed_some, held_some, held_is}
 
 -- the bytes of a statement that has room are a legal body exactly if it is writable
@@ -49,7 +51,7 @@ unfolding begin_on
 begin_no buffer h p g e = refused_handed buffer 0 g (begun h p) e
 
 module _ (grown : Statement → model.Operation → Statement) (buffer : List ℕ) (fill : ℕ) (o : Operation) where
-  pub add_no : is_handed o ≡ false → refused_by 6 buffer fill ≡ add_to grown buffer fill o
+  add_no : is_handed o ≡ false → refused_by 6 buffer fill ≡ add_to grown buffer fill o
   unfolding add_to
   add_no e = go (held buffer fill)
     where
@@ -57,13 +59,21 @@ module _ (grown : Statement → model.Operation → Statement) (buffer : List �
       go none = unfold written in refl
       go (some st) = refused_handed buffer fill o (grown st) e
 
-  pub add_unheld : is_some (held buffer fill) ≡ false → refused_by 6 buffer fill ≡ add_to grown buffer fill o
+  add_unheld : is_some (held buffer fill) ≡ false → refused_by 6 buffer fill ≡ add_to grown buffer fill o
   unfolding add_to is_some written
   add_unheld e = go (held buffer fill) e
     where
       go : (s : Option Statement) → is_some s ≡ false → refused_by 6 buffer fill ≡ written buffer fill (maybe s none (λ st. maybe (handed o) none (λ x. some (grown st x))))
       go none e = refl
       go (some st) e = absurd (true≢false e)
+
+  -- what is refused changes nothing
+  pub add_refused : (e : WriteError) → Addable buffer fill o (Err e) → written_is (added (Err e)) buffer ≡ add_to grown buffer fill o
+  add_refused e a = ap (λ (d : WriteError). written_is (added (Err d)) buffer) a.0 ∙ refused_is 6 buffer fill ∙ go (is_some (held buffer fill)) refl a.1
+    where
+      go : (b : Bool) → is_some (held buffer fill) ≡ b → (b && is_handed o) ≡ false → refused_by 6 buffer fill ≡ add_to grown buffer fill o
+      go true q h = add_no h
+      go false q h = add_unheld q
 
 pub begin_done : (buffer : List ℕ) (h p : ℕ) (g : Operation) (body : List ℕ) (w : Written) → is_handed g ≡ true → Begun h p g body → w ≡ settled buffer 0 body → w ≡ begin_on buffer h p g
 unfolding begin_on

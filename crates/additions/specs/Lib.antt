@@ -1,2 +1,3 @@
+pub mod Addable
 pub mod AdditionLaws
 pub mod WriterCases

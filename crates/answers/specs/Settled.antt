@@ -1,7 +1,7 @@
 -- What a composed body is answered, and what becomes of the buffer. Assumes nothing.
 use Rattle.std.proofs.Math.Path.{◌≡◌, refl, ap}
 use Rattle.std.proofs.Common.{sym, ◌∙◌, arith, le-leb, leb-true}
-use Rattle.std.specs.Prelude.{Bool, ℕ, ◌≤◌, ◌<◌, leb}
+use Rattle.std.specs.Prelude.{Bool, ℕ, ◌≤◌, ◌<◌, leb, Result, Ok, Err}
 use Rattle.std.proofs.Math.Bool.{true, false, cond}
 use mathlib.Core.List.{List, ◌++◌}
 use Rattle.std.proofs.Math.ListN.{length, drop}
@@ -9,7 +9,12 @@ use Rattle.std.proofs.lemmas.Bool.{lt-leb}
 use Rattle.words.specs.Over.{over}
 use Rattle.words.specs.OverLaws.{over_front}
 use Rattle.model.specs.Legal.{legal_body}
-use Rattle.writer.specs.Writer.{Written, written_is, refused_by, filled_with}
+use Rattle.std.specs.Result.{MatchResult, IsErrAnd}
+use Rattle.std.proofs.lemmas.Result.{err_from_is_err_and}
+use Rattle.writer.specs.declared.Reason.{Reason}
+use Rattle.writer.specs.declared.WriteError.{WriteError}
+use Rattle.writer.specs.Writer.{added, number, Written, written_is, refused_by, filled_with}
+use Rattle.writer.specs.WriterLaws.{number_some}
 
 -- the number that a composed body is refused by; 0: it is not
 unfoldable pub refusal_of : (legal : Bool) (size most : ℕ) → ℕ
@@ -26,6 +31,11 @@ refusal_room legal size most e h = rw (e, lt-leb size most h)
 pub refusal_none : (legal : Bool) (size most : ℕ) → legal ≡ true → size ≤ most → 0 ≡ refusal_of legal size most
 unfolding refusal_of
 refusal_none legal size most e h = rw (e, le-leb size most h)
+
+-- the number that the code gives; 0: it gives none
+abbrev pub refusal_is : Result (Unit {0}) Reason → ℕ
+refusal_is (Ok done) = 0
+refusal_is (Err reason) = number reason
 
 -- what becomes of a buffer by a composed body
 unfoldable pub settled : (buffer : List ℕ) (fill : ℕ) (body : List ℕ) → Written
@@ -65,3 +75,27 @@ module _ (buffer : List ℕ) (fill : ℕ) (body : List ℕ) (r : ℕ) (e : r ≡
 pub refused_is : (n : ℕ) (buffer : List ℕ) (fill : ℕ) → written_is (record { answer = n; fill = fill }) buffer ≡ refused_by n buffer fill
 unfolding written_is refused_by
 refused_is n buffer fill = refl
+
+-- ---- a refusal with the fill beside it
+
+-- what a composed body is refused with
+abbrev pub refused_at : ℕ → Result (Unit {0}) Reason → Result (Unit {0}) WriteError
+refused_at fill (Ok done) = Ok done
+refused_at fill (Err reason) = Err (record { reason = reason; fill = fill })
+
+pub refused_at_lem : (fill : ℕ) (r : Result (Unit {0}) Reason) (m : Result (Unit {0}) WriteError) {Q : Reason → WriteError → Type 0} → MatchResult r (λ x. m ≡ Ok x) (λ e. IsErrAnd m (Q e))
+    → ((e : Reason) (d : WriteError) → Q e d → d ≡ record { reason = e; fill = fill }) → m ≡ refused_at fill r
+refused_at_lem fill (Ok done) m h k = h
+refused_at_lem fill (Err reason) m {Q} h k = let p = err_from_is_err_and {Q = Q reason} m h in p.1 ∙ ap Err (k reason p.0 p.2)
+
+module _ (buffer : List ℕ) (fill : ℕ) (body : List ℕ) where
+  pub settled_err : (r : Result (Unit {0}) Reason) (e : WriteError) → refusal_is r ≡ refusal_of (legal_body body) (length body) (length buffer) → refused_at fill r ≡ Err e
+      → written_is (added (Err e)) buffer ≡ settled buffer fill body
+  settled_err (Ok done) e s m = absurd cc
+  settled_err (Err reason) e s m =
+      let same : e ≡ record { reason = reason; fill = fill } = cc in
+      ap (λ (d : WriteError). written_is (added (Err d)) buffer) same ∙ refused_is (number reason) buffer fill ∙ settled_refused buffer fill body (number reason) s (number_some reason)
+
+pub none_refused : (fill : ℕ) (r : Result (Unit {0}) Reason) (done : Unit {0}) → refused_at fill r ≡ Ok done → refusal_is r ≡ 0
+none_refused fill (Ok done) d m = refl
+none_refused fill (Err reason) d m = absurd cc

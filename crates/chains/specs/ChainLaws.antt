@@ -5,14 +5,9 @@ use Rattle.std.proofs.Math.Option.{Option}
 use Rattle.basis.specs.Choice.{cond_ind}
 use Rattle.model.specs.Statement.{Statement}
 use Rattle.statements.specs.declared.Operation.{Operation}
-use Rattle.writer.specs.Writer.{Written, written_is, refused_by, begin_on, add_to, add_operation, add_branch}
+use Rattle.writer.specs.Writer.{Written, refused_by, begin_on, add_to, add_operation, add_branch}
 use Rattle.writer.specs.WriterLaws.{Answered, filled, malformed, short, answered, written_length}
-use Rattle.chains.specs.Chains.{left, onward, operation_more, branch_more}
-
--- an answer, a fill and the bytes are what the calls left
-pub left_told : (answer fill : ℕ) (bytes : List ℕ) → written_is (record { answer = answer; fill = fill }) bytes ≡ left answer fill bytes
-unfolding written_is
-left_told answer fill bytes = refl
+use Rattle.chains.specs.Chains.{onward, operation_more, branch_more}
 
 -- ---- a refused begin
 

@@ -3,10 +3,6 @@ use Rattle.std.specs.Prelude.{cond, List, ℕ, eqb}
 use Rattle.statements.specs.declared.Operation.{Operation}
 use Rattle.writer.specs.Writer.{Written, add_operation, add_branch}
 
--- what the calls so far have left: their answer, the fill and the buffer's bytes
-abbrev pub left : (answer fill : ℕ) (bytes : List ℕ) → Written
-left answer fill bytes = record { answer = answer; fill = fill; bytes = bytes }
-
 -- an addition to what the calls before it left, if each of them was done; after a refusal it changes nothing, and that answer stays
 unfoldable pub onward : ((buffer : List ℕ) (fill : ℕ) → Operation → Written) → Written → Operation → Written
 onward add o x = cond (eqb o.answer 0) (add o.bytes o.fill x) o

@@ -1,5 +1,5 @@
 -- The bytes of a statement with one addition more: those it had, with one count raised, and those of the addition. Assumes nothing.
-use Rattle.std.specs.Prelude.{◌≡◌, refl, Bool, true, false, ℕ, ◌+◌, ◌≤◌, ◌<◌, length, take, set, get_or}
+use Rattle.std.specs.Prelude.{◌≡◌, refl, ℕ, ◌+◌, ◌≤◌, ◌<◌, length, take, set, get_or}
 use Rattle.std.proofs.Common.{sym, ap, ◌∙◌, suc-add, arith, length-append, get_or-take, get_or-append-add}
 use mathlib.Core.List.Memᴰ
 use mathlib.Core.List.{List, [], ◌∷◌, ◌++◌, flat_map, append_assoc, append-nil}
@@ -16,11 +16,6 @@ use Rattle.writer.specs.Writer.{begun, in_last, with_operation, with_branch}
 use Rattle.writer.specs.WriterLaws.{in_last_length}
 use Rattle.parts.specs.Fields.{flat_map_one}
 use Rattle.walk.specs.Counts.{before_count, before_more, count_at}
-
--- a branch more, or an operation more
-abbrev pub grown_by : (branch : Bool) → Statement → Operation → Statement
-grown_by true = with_branch
-grown_by false = with_operation
 
 -- ---- a byte raised by one
 
@@ -144,18 +139,14 @@ in_last_fits [] o f h = each_nil _
 in_last_fits (b ∷ []) o f h = each-cons FitsBranch _ [] (fits_more b o (f b (Memᴰ.head refl)) h) (each_nil _)
 in_last_fits (b ∷ c ∷ bs) o f h = each-cons FitsBranch b (in_last (c ∷ bs) o) (f b (Memᴰ.head refl)) (in_last_fits (c ∷ bs) o (λ x i. f x (Memᴰ.tail i)) h)
 
-grows_operation : Grows with_operation
+pub grows_operation : Grows with_operation
 unfolding with_operation
 grows_operation st o f h = record { host = f.host; process = f.process; branches = in_last_fits st.branches o f.branches h }
 
-grows_branch : Grows with_branch
+pub grows_branch : Grows with_branch
 unfolding with_branch
 grows_branch st g f h =
     record { host = f.host; process = f.process; branches = each_append FitsBranch st.branches _ f.branches (each-cons FitsBranch _ [] (fits_guard g h) (each_nil _)) }
-
-pub grows_by : (branch : Bool) → Grows (grown_by branch)
-grows_by true = grows_branch
-grows_by false = grows_operation
 
 pub fits_begun : (h p : ℕ) (g : Operation) → h < 256 → p < processes → FitsOperation g → FitsStatement (begun h p g)
 unfolding begun

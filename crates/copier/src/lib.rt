@@ -1,16 +1,18 @@
 // A body taken apart by the reader, and its parts handed to the writer: the same bytes.
 #![tactic(auto)]
 
-ghost use Rattle.std.specs.Prelude.{◌≡◌, true, List, ◌++◌, ℕ, ◌≤◌, length, drop};
+ghost use Rattle.std.specs.Prelude.{◌≡◌, true, List, ◌++◌, ℕ, ◌≤◌, length, drop, IfErr};
 ghost use Rattle.model.specs.Legal.{legal_body};
-ghost use Rattle.walk.specs.Walk.{Operations};
 ghost use Rattle.rewriter.specs.Copying.{Underway};
-ghost use Rattle.copier.specs.Rewriting.{copied, rewritten};
+ghost use Rattle.writer.specs.Writer.{number};
+ghost use Rattle.answers.specs.Settled.{refusal_of};
+ghost use Rattle.copier.specs.Rewriting.{copied, done, rewritten};
 
 use additions::{begin_at, branch_at, operation_at};
 use answers::refusal;
 use statements::standing_operation;
-use words::{BRANCH_COUNT_AT, BRANCHES_AT, COUNT_WIDTH, PROCESS_AT, size, word2};
+use words::{BRANCH_COUNT_AT, BRANCHES_AT, COUNT_WIDTH, HOST_AT, PROCESS_AT, size, word2};
+use writer::Reason;
 
 // Where the reader stands in the body, and how many bytes the writer has filled.
 #[derive(Clone, Copy)]
@@ -21,14 +23,14 @@ struct Place {
 
 // So many operations that stand at a position of the body, each read and handed in.
 fn copy_operations(body: &[u8], at: usize, count: usize, out: &mut [u8], fill: usize) -> Place
-    requires { Operations body.now at count }
+    requires { (buffer : List ℕ) × (later : ℕ) × Underway body.now buffer at count later fill out.old }
     ensures { (buffer : List ℕ) (later : ℕ) → Underway body.now buffer at count later fill out.old → Underway body.now buffer result.at 0 later result.fill out.new }
 {
     let mut next = at;
     let mut filled = fill;
     for _ in 0..count {
         let (op, end) = standing_operation(body, next);
-        filled = operation_at(out, filled, op).fill;
+        filled = operation_at(out, filled, op).unwrap();
         next = end;
     }
     Place {
@@ -46,8 +48,8 @@ fn copy_branches(body: &[u8], at: usize, branches: usize, out: &mut [u8], fill: 
     let mut filled = fill;
     for _ in 0..branches {
         let (op, end) = standing_operation(body, next);
-        let a = branch_at(out, filled, op);
-        let c = copy_operations(body, end + COUNT_WIDTH, size(body[end]), out, a.fill);
+        let begun = branch_at(out, filled, op).unwrap();
+        let c = copy_operations(body, end + COUNT_WIDTH, size(body[end]), out, begun);
         next = c.at;
         filled = c.fill;
     }
@@ -61,17 +63,16 @@ fn copy_body(body: &[u8], out: &mut [u8]) -> usize
 {
     let (op, end) = standing_operation(body, BRANCHES_AT);
     let process = word2(body, PROCESS_AT);
-    let a = begin_at(out, body[words::HOST_AT], process, op);
-    let c = copy_operations(body, end + COUNT_WIDTH, size(body[end]), out, a.fill);
+    let begun = begin_at(out, body[HOST_AT], process, op).unwrap();
+    let c = copy_operations(body, end + COUNT_WIDTH, size(body[end]), out, begun);
     copy_branches(body, c.at, size(body[BRANCH_COUNT_AT]) - 1, out, c.fill)
 }
 
-// A legal body, read and written anew at the front of a buffer with room for it: the count of its bytes; else 0, and nothing is changed.
-pub fn rewrite(body: &[u8], out: &mut [u8]) -> usize
-    ensures { copied result out.new ≡ rewritten body.now out.old }
+// A legal body, read and written anew at the front of a buffer with room for it: the count of its bytes; else why not, and nothing is changed.
+pub fn rewrite(body: &[u8], out: &mut [u8]) -> Result<usize, Reason>
+    ensures bytes { copied (done result) out.new ≡ rewritten body.now out.old }
+    ensures why { IfErr result (λ reason. number reason ≡ refusal_of (legal_body body.now) (length body.now) (length out.old)) }
 {
-    if refusal(out.len(), body) != 0 {
-        return 0;
-    }
-    copy_body(body, out)
+    refusal(out.len(), body)?;
+    Ok(copy_body(body, out))
 }

@@ -2,7 +2,7 @@
 #![tactic(auto)]
 
 use statements::{Field, OUT, Operation, TRUE};
-use writer::Added;
+use writer::{Reason, WriteError};
 
 // The file descriptor of the standard output.
 const STDOUT: i32 = 1;
@@ -67,7 +67,7 @@ fn always() -> Operation {
 // ---- statements
 
 // in(0, name 7, whole into 0) then out(0, name 7, variable 0 plus 1), or else the same with name 8 and minus.
-fn write_choice(body: &mut [u8]) -> Added {
+fn write_choice(body: &mut [u8]) -> Result<usize, WriteError> {
     carried::choice(
         body,
         2,
@@ -80,75 +80,77 @@ fn write_choice(body: &mut [u8]) -> Added {
 }
 
 // true then out(0, name 8, 41).
-fn write_out(body: &mut [u8]) -> Added {
-    let begun = additions::begin_at(body, 2, 6, always());
+fn write_out(body: &mut [u8]) -> Result<usize, WriteError> {
+    let begun = additions::begin_at(body, 2, 6, always())?;
     additions::operation_at(
         body,
-        begun.fill,
+        begun,
         operation(OUT, 8, field(GIVEN, WHOLE, 0, 41)),
     )
 }
 
 // true then out(0, name 7, variable 0 plus 1): no operation before it binds the variable.
-fn write_unbound(body: &mut [u8]) -> Added {
-    let begun = additions::begin_at(body, 2, 7, always());
+fn write_unbound(body: &mut [u8]) -> Result<usize, WriteError> {
+    let begun = additions::begin_at(body, 2, 7, always())?;
     additions::operation_at(
         body,
-        begun.fill,
+        begun,
         operation(OUT, 7, field(PLUS, WHOLE, 0, 1)),
     )
 }
 
 // ---- records
 
-// Hands in the record that the first n bytes are, and prints the lines of its replies.
-fn take(state: &mut [u8], record: &[u8], n: usize) {
-    if record.len() < n {
-        return;
-    }
+// Hands in a record, and prints the lines of its replies.
+fn take(state: &mut [u8], record: &[u8]) {
     let mut reply = [0u8; words::REPLY];
     let mut text = [0u8; lines::ROOM];
-    let returned = replica::replica_take(state, &record[..n], &mut reply);
+    let returned = replica::replica_take(state, record, &mut reply);
     let end = lines::lines(&reply, returned as usize, &mut text);
     io::write_all(STDOUT, &text[..end]);
 }
 
-// "a two-byte ASCII mark, body length (2 bytes), position (4 bytes), body": a record of the first n bytes is handed in.
-fn send(state: &mut [u8], mark: &[u8; words::MARK_WIDTH], position: u32, body: &[u8], n: usize) {
+// "a two-byte ASCII mark, body length (2 bytes), position (4 bytes), body": such a record is handed in.
+fn send(state: &mut [u8], mark: &[u8; words::MARK_WIDTH], position: u32, body: &[u8]) {
+    let n = body.len();
     if words::MOST_BODY < n {
-        return;
-    }
-    if body.len() < n {
         return;
     }
     let mut record = [0u8; RECORD];
     spans::copy_at(&mut record, 0, mark);
     words::put2(&mut record, words::LENGTH_AT, n as u16);
     words::put4(&mut record, words::POSITION_AT, position);
-    spans::copy_part(&mut record, words::BODY_AT, body, 0, n);
-    take(state, &record, words::BODY_AT + n);
+    spans::copy_at(&mut record, words::BODY_AT, body);
+    take(state, &record[..words::BODY_AT + n]);
 }
 
 // Prints the number of a refused addition.
-fn print_refused(answer: u8) {
+fn print_refused(reason: Reason) {
     let mut text = [0u8; lines::ROOM];
-    let end = lines::refused(words::wide(answer), &mut text);
+    let end = lines::refused(u32::from(u8::from(reason)), &mut text);
     io::write_all(STDOUT, &text[..end]);
 }
 
-// Sends the body that the writer left, unless it refused an addition: taken apart by the reader of bodies and written again.
-fn run(state: &mut [u8], position: u32, body: &[u8], added: Added) {
-    if added.answer != 0 {
-        print_refused(added.answer);
-        return;
-    }
-    let fill = added.fill;
-    if body.len() < fill {
-        return;
-    }
+// A body that was written, taken apart by the reader of bodies and written again, is sent.
+fn send_again(state: &mut [u8], position: u32, body: &[u8]) {
     let mut again = [0u8; words::MOST_BODY];
-    let n = copier::rewrite(&body[..fill], &mut again);
-    send(state, b"AG", position, &again, n);
+    if let Ok(n) = copier::rewrite(body, &mut again)
+        && let Some(copy) = again.get(..n)
+    {
+        send(state, b"AG", position, copy);
+    }
+}
+
+// Sends the body that the writer left, unless it refused an addition.
+fn run(state: &mut [u8], position: u32, body: &[u8], written: Result<usize, WriteError>) {
+    match written {
+        Ok(fill) => {
+            if let Some(filled) = body.get(..fill) {
+                send_again(state, position, filled);
+            }
+        }
+        Err(e) => print_refused(e.reason),
+    }
 }
 
 // Host 2 is up. The statement that chooses waits, and the next wakes it. The last is refused, and no record is made of it.
@@ -156,7 +158,7 @@ fn main() {
     let mut state = [0u8; words::STATE];
     let mut body = [0u8; words::MOST_BODY];
     replica::replica_fresh(&mut state);
-    send(&mut state, b"RV", 1, &[2], 1);
+    send(&mut state, b"RV", 1, &[2]);
     let choice = write_choice(&mut body);
     run(&mut state, 2, &body, choice);
     let put = write_out(&mut body);

@@ -171,7 +171,7 @@ pub record Putting (fields : List Field) (before : List ℕ) (at : ℕ) (after :
 pub putting_start : (fields : List Field) (d : List ℕ) (at : ℕ) → Putting fields d at d at 0
 putting_start fields d at = record { same = refl; most = omega arith; put = fields_none fields d at }
 
-pub putting_turn : (fields : List Field) (d : List ℕ) (at : ℕ) (e : List ℕ) (m i : ℕ) (x : Field) (f : List ℕ) (end : ℕ) → at + fields_size ≤ length d → length fields ≡ most_fields → i < most_fields
+pub putting_turn : (fields : List Field) (d : List ℕ) (at : ℕ) (e : List ℕ) (m i : ℕ) (x : Field) (f : List ℕ) (end : ℕ) → at + fields_size ≤ length d → length fields ≤ most_fields → i < length fields
     → length f ≡ length e → Putting fields d at e m i → PutField (get_or fields i x) e m f end → Putting fields d at f end (i + 1)
 putting_turn fields d at e m i x f end room six h l p q = record {
   same = l ∙ p.same;

@@ -70,19 +70,14 @@ fn put_field(t: &mut [u8], at: usize, f: Field) -> usize
     }
 }
 
-// The fields of an operation, one after the other. The index after them.
-fn put_fields(t: &mut [u8], at: usize, op: Operation) -> usize
-    requires { (op.count ≤ most_fields) × T (all has_form (take op.count op.fields)) × (at + fields_size ≤ length t.old) }
-    ensures { PutFields (take op.count op.fields) t.old at t.new result }
+// Fields, one after the other. The index after them.
+fn put_fields(t: &mut [u8], at: usize, fields: &[Field]) -> usize
+    requires { (length fields.now ≤ most_fields) × T (all has_form fields.now) × (at + fields_size ≤ length t.old) }
+    ensures { PutFields fields.now t.old at t.new result }
 {
-    let fields = op.fields;
-    let count = op.count;
     let mut end = at;
-    let mut i: usize = 0;
-    while i < count {
-        let f = fields[i];
-        end = put_field(t, end, f);
-        i += 1;
+    for f in fields {
+        end = put_field(t, end, *f);
     }
     end
 }
@@ -93,7 +88,7 @@ fn put_counted(t: &mut [u8], at: usize, op: Operation) -> usize
     ensures { PutCounted (take op.count op.fields) t.old at t.new result }
 {
     t[at] = op.count as u8;
-    put_fields(t, at + COUNT_WIDTH, op)
+    put_fields(t, at + COUNT_WIDTH, &op.fields[..op.count])
 }
 
 // An operation, from index at on: its code, its spaces, its field count and its fields. The index after it.

@@ -5,9 +5,10 @@ ghost use Rattle.std.specs.Prelude.{◌≡◌};
 ghost use Rattle.basis.specs.Sizes.{layout_number};
 ghost use Rattle.model.specs.Meeting.{can_meet};
 ghost use Rattle.calls.specs.Calls.{lent, answer, fresh_answer, take_call, fresh_call};
-ghost use Rattle.writer.specs.Writer.{written_is, begin_on, add_operation, add_branch};
+ghost use Rattle.writer.specs.Writer.{added, written_is, begin_on, add_operation, add_branch};
 
 use statements::Operation;
+use writer::WriteError;
 
 mod steps;
 
@@ -34,6 +35,22 @@ pub fn replica_take(state: &mut [u8], record: &[u8], reply: &mut [u8]) -> u64
 
 // ---- the writer: 0, 6 or 2
 
+// The number that C is told, with the count of filled bytes beside it.
+fn told(written: Result<usize, WriteError>, fill: &mut usize) -> u64
+    ensures { record { answer = result; fill = fill.new } ≡ added written }
+{
+    match written {
+        Ok(n) => {
+            *fill = n;
+            0
+        }
+        Err(e) => {
+            *fill = e.fill;
+            u64::from(u8::from(e.reason))
+        }
+    }
+}
+
 // A body is begun: "host, process and first guard".
 pub fn replica_begin(
     body: &mut [u8],
@@ -44,29 +61,21 @@ pub fn replica_begin(
 ) -> u64
     ensures { written_is (record { answer = result; fill = fill.new }) body.new ≡ begin_on body.old host process guard }
 {
-    let added = additions::begin_at(body, host, process, guard);
-    *fill = added.fill;
-    added.answer as u64
+    told(additions::begin_at(body, host, process, guard), fill)
 }
 
 // "one operation .. more", at the end of the last branch.
 pub fn replica_operation(body: &mut [u8], fill: &mut usize, operation: Operation) -> u64
     ensures { written_is (record { answer = result; fill = fill.new }) body.new ≡ add_operation body.old fill.old operation }
 {
-    let filled = *fill;
-    let added = additions::operation_at(body, filled, operation);
-    *fill = added.fill;
-    added.answer as u64
+    told(additions::operation_at(body, *fill, operation), fill)
 }
 
 // "or branch more": its guard, and no operation yet.
 pub fn replica_branch(body: &mut [u8], fill: &mut usize, guard: Operation) -> u64
     ensures { written_is (record { answer = result; fill = fill.new }) body.new ≡ add_branch body.old fill.old guard }
 {
-    let filled = *fill;
-    let added = additions::branch_at(body, filled, guard);
-    *fill = added.fill;
-    added.answer as u64
+    told(additions::branch_at(body, *fill, guard), fill)
 }
 
 // ---- two templates: 1 or 0, 6 or 19

@@ -1,11 +1,12 @@
 -- A body part by part: what was read and handed in so far, and what stands ahead. Assumes nothing.
-use Rattle.std.specs.Prelude.{◌≡◌, ℕ, suc, ◌+◌, ◌-◌, ◌≤◌, ◌<◌, length, drop, get_or, T, leb, Some}
+use Rattle.std.specs.Prelude.{◌≡◌, refl, true, Result, Ok, Err, ℕ, suc, ◌+◌, ◌-◌, ◌≤◌, ◌<◌, length, drop, get_or, T, leb, Some}
 use Rattle.std.proofs.Common.{sym, ◌∙◌, arith, length-drop, le→leb}
 use Rattle.std.proofs.Math.Path.{ap, subst}
+use Rattle.std.specs.Result.{is_ok}
+use Rattle.basis.specs.Choice.{is_some}
 use Rattle.std.proofs.Math.Option.{Option, some}
 use mathlib.Core.List.{List, [], ◌∷◌, ◌++◌, map}
 use Rattle.std.proofs.Math.Seq.{drop-append_seam}
-use Rattle.basis.specs.Choice.{is_some}
 use Rattle.basis.specs.Logic.{both}
 use Rattle.basis.specs.Numbers.{number_at}
 use Rattle.basis.specs.NumberLaws.{bytes_of_lem}
@@ -22,8 +23,9 @@ use Rattle.statements.specs.Flat.{operation_is, Reads, operation_at}
 use Rattle.walk.specs.BodyParts.{BodyParts}
 use Rattle.walk.specs.Standing.{StandAs, none_left, no_items}
 use Rattle.walk.specs.Walk.{Operations, operations_at, after_operations, Branches, branches_from, NextBranch, ReadBranch, read_next, read_branch, branch_there, body_is, body_branches, body_count}
-use Rattle.writer.specs.declared.Added.{Added}
-use Rattle.writer.specs.Writer.{handed, begun, Written, written_is, is_writable, filled_with, begin_on, add_operation, add_branch}
+use Rattle.writer.specs.declared.WriteError.{WriteError}
+use Rattle.writer.specs.Writer.{handed, begun, Written, added, written_is, is_writable, filled_with, begin_on, add_operation, add_branch}
+use Rattle.writer.specs.WriterLaws.{number_some}
 use Rattle.writer.specs.Tests.{parts_handed}
 use Rattle.rewriter.specs.Additions as addition
 use Rattle.rewriter.specs.Additions.{Addition, additions, hand_in, grow, grow_all}
@@ -66,6 +68,18 @@ branches_alone body at next later e = ap (λ (os : List model.Operation). map ad
 
 -- ---- what was handed in
 
+-- a call was done, and its fill is so
+pub record Fills (a : Result ℕ WriteError) (P : ℕ → Type 0) : Type 0 where
+  pub fill : ℕ
+  pub is : a ≡ Ok fill
+  pub so : P fill
+
+pub fills_at : {a : Result ℕ WriteError} {P : ℕ → Type 0} → Fills a P → (n : ℕ) → a ≡ Ok n → P n
+fills_at {P = P} d n e = let same : d.fill ≡ n = cc in subst P same d.so
+
+pub fills_ok : {a : Result ℕ WriteError} {P : ℕ → Type 0} → Fills a P → is_ok a ≡ true
+fills_ok d = rw d.is
+
 -- The filled bytes of `out` are those of a front part of the body's statement, bytes past them are those of the buffer that the writer was begun on, and the additions to come make it the whole.
 pub record Filled (body buffer : List ℕ) (fill : ℕ) (out : List ℕ) (ys : List (Addition model.Operation)) : Type 0 where
   pub whole : Statement
@@ -78,9 +92,11 @@ pub record Filled (body buffer : List ℕ) (fill : ℕ) (out : List ℕ) (ys : L
   pub grows : grow_all part ys ≡ whole
 
 -- what a call left, where it left the bytes of a statement
-left_by : (buffer : List ℕ) (st : Statement) (a : Added) (next : List ℕ) → written_is a next ≡ holding buffer st → (a.fill ≡ length (statement_bytes st)) × (next ≡ statement_bytes st ++ drop (length (statement_bytes st)) buffer)
+left_by : (buffer : List ℕ) (st : Statement) (a : Result ℕ WriteError) (next : List ℕ) → written_is (added a) next ≡ holding buffer st
+    → (a ≡ Ok (length (statement_bytes st))) × (next ≡ statement_bytes st ++ drop (length (statement_bytes st)) buffer)
 unfolding written_is filled_with
-left_by buffer st a next e = (ap (λ (w : Written). w.fill) e, ap (λ (w : Written). w.bytes) e)
+left_by buffer st (Ok n) next e = (ap Ok (ap (λ (w : Written). w.fill) e), ap (λ (w : Written). w.bytes) e)
+left_by buffer st (Err x) next e = absurd (number_some x.reason (ap (λ (w : Written). w.answer) e))
 
 -- a call on the filled bytes is one on the statement's
 called_on : (buffer : List ℕ) (st : Statement) (fill : ℕ) (out : List ℕ) (call : List ℕ → ℕ → Written) → fill ≡ length (statement_bytes st) → out ≡ statement_bytes st ++ drop (length (statement_bytes st)) buffer
@@ -105,16 +121,16 @@ unfolding grow_all
 after_one st whole y ys e = e
 
 -- one addition more was handed in
-more : (body buffer : List ℕ) (fill : ℕ) (out : List ℕ) (y : Addition model.Operation) (ys : List (Addition model.Operation)) (u : Filled body buffer fill out (y ∷ ys)) (a : Added) (next : List ℕ)
-    → (T (is_writable u.part) → T (is_writable (grow u.part y)) → length (statement_bytes (grow u.part y)) ≤ length buffer → written_is a next ≡ holding buffer (grow u.part y))
-    → Filled body buffer a.fill next ys
+more : (body buffer : List ℕ) (fill : ℕ) (out : List ℕ) (y : Addition model.Operation) (ys : List (Addition model.Operation)) (u : Filled body buffer fill out (y ∷ ys)) (a : Result ℕ WriteError) (next : List ℕ)
+    → (T (is_writable u.part) → T (is_writable (grow u.part y)) → length (statement_bytes (grow u.part y)) ≤ length buffer → written_is (added a) next ≡ holding buffer (grow u.part y))
+    → Fills a (λ n. Filled body buffer n next ys)
 more body buffer fill out y ys u a next w =
     let on : grow_all (grow u.part y) ys ≡ u.whole = after_one u.part u.whole y ys u.grows in
     let one : 1 ≤ length (grow u.part y).branches = some_grow u.part y u.one in
     let p = part_of body u.part u.whole (y ∷ ys) u.is u.one u.grows in
     let q = part_of body (grow u.part y) u.whole ys u.is one on in
     let l = left_by buffer (grow u.part y) a next (w p.0 q.0 (omega (arith, u.room, q.1))) in
-    record { whole = u.whole; is = u.is; room = u.room; part = grow u.part y; one = one; filled = l.0; bytes = l.1; grows = on }
+    record { fill = length (statement_bytes (grow u.part y)); is = l.0; so = record { whole = u.whole; is = u.is; room = u.room; part = grow u.part y; one = one; filled = refl; bytes = l.1; grows = on } }
 
 -- ---- underway
 
@@ -124,7 +140,7 @@ pub record Underway (body buffer : List ℕ) (at count later fill : ℕ) (out : 
 
 -- one operation more
 pub operation_turn : (body buffer : List ℕ) (at m later fill : ℕ) (out : List ℕ) (u : Underway body buffer at (suc m) later fill out) (r : flat.Operation × ℕ) → Reads (Some r) (operation_at body at)
-    → (a : Added) (next : List ℕ) → written_is a next ≡ add_operation out fill r.0 → Underway body buffer r.1 m later a.fill next
+    → (a : Result ℕ WriteError) (next : List ℕ) → written_is (added a) next ≡ add_operation out fill r.0 → Fills a (λ n. Underway body buffer r.1 m later n next)
 unfolding hand_in
 operation_turn body buffer at m later fill out u r s a next w =
     let h = u.ahead in
@@ -134,9 +150,14 @@ operation_turn body buffer at m later fill out u r s a next w =
     let split : to_come body at (suc m) h.next later ≡ addition.operation o ∷ ys = ap (λ (os : List model.Operation). map addition.operation os ++ additions (branches_from body h.next later)) n.items in
     let f : Filled body buffer fill out (addition.operation o ∷ ys) = subst (λ (l : List (Addition model.Operation)). Filled body buffer fill out l) split u.so_far in
     let called : add_operation out fill r.0 ≡ hand_in (holding buffer f.part) (addition.operation r.0) = called_on buffer f.part fill out (λ l n. add_operation l n r.0) f.filled f.bytes in
+    let filled = more body buffer fill out (addition.operation o) ys f a next (λ x y z. w ∙ called ∙ operation_front buffer f.part f.one r.0 o (read_handed r (operation_at body at) s) x y z) in
     record {
-      ahead = record { within = n.within; operations = n.later; next = h.next; next_within = h.next_within; after = sym n.left ∙ h.after; branches = h.branches };
-      so_far = more body buffer fill out (addition.operation o) ys f a next (λ x y z. w ∙ called ∙ operation_front buffer f.part f.one r.0 o (read_handed r (operation_at body at) s) x y z);
+      fill = filled.fill;
+      is = filled.is;
+      so = record {
+        ahead = record { within = n.within; operations = n.later; next = h.next; next_within = h.next_within; after = sym n.left ∙ h.after; branches = h.branches };
+        so_far = filled.so;
+      };
     }
 
 -- the guard of the next branch is there
@@ -152,12 +173,9 @@ module _ (body buffer : List ℕ) (at m fill : ℕ) (out : List ℕ) (u : Underw
   pub guard_within : r.1 < length body
   guard_within = next_branch.0.long
 
-  pub guard_operations : Operations body (r.1 + count_width) (get_or body r.1 0)
-  guard_operations = next_branch.0.body
-
   -- one branch more: its operations are ahead
-  pub branch_turn : (a : Added) (next : List ℕ) → written_is a next ≡ add_branch out fill r.0
-      → Underway body buffer (r.1 + count_width) (get_or body r.1 0) m a.fill next
+  pub branch_turn : (a : Result ℕ WriteError) (next : List ℕ) → written_is (added a) next ≡ add_branch out fill r.0
+      → Fills a (λ n. Underway body buffer (r.1 + count_width) (get_or body r.1 0) m n next)
   unfolding additions hand_in
   branch_turn a next w =
       let h : NextBranch body at m r.1 = next_branch.0 in
@@ -166,10 +184,8 @@ module _ (body buffer : List ℕ) (at m fill : ℕ) (out : List ℕ) (u : Underw
       let split : to_come body at 0 u.ahead.next (suc m) ≡ addition.branch g ∷ ys = branches_alone body at u.ahead.next (suc m) (next_here body at (suc m) u.ahead) ∙ ap additions h.items ∙ ap (λ (l : List (Addition model.Operation)). addition.branch g ∷ l) (sym (to_come_lem body at m r.1 h)) in
       let f : Filled body buffer fill out (addition.branch g ∷ ys) = subst (λ (l : List (Addition model.Operation)). Filled body buffer fill out l) split u.so_far in
       let called : add_branch out fill r.0 ≡ hand_in (holding buffer f.part) (addition.branch r.0) = called_on buffer f.part fill out (λ l n. add_branch l n r.0) f.filled f.bytes in
-      record {
-        ahead = branch_ahead body at m r.1 h;
-        so_far = more body buffer fill out (addition.branch g) ys f a next (λ x y z. w ∙ called ∙ branch_front buffer f.part f.one r.0 g (read_handed r (operation_at body at) s ∙ ap some next_branch.1) x y z);
-      }
+      let filled = more body buffer fill out (addition.branch g) ys f a next (λ x y z. w ∙ called ∙ branch_front buffer f.part f.one r.0 g (read_handed r (operation_at body at) s ∙ ap some next_branch.1) x y z) in
+      record { fill = filled.fill; is = filled.is; so = record { ahead = branch_ahead body at m r.1 h; so_far = filled.so } }
 
 -- nothing is ahead: all was handed in
 pub all_in : (body buffer : List ℕ) (at fill : ℕ) (out : List ℕ) → Underway body buffer at 0 0 fill out → (fill ≡ length body) × (out ≡ body ++ drop (length body) buffer)
@@ -236,12 +252,9 @@ module _ (body : List ℕ) (is-legal : T (legal_body body)) where
     pub first_within : r.1 < length body
     first_within = first_branch.0.long
 
-    pub first_operations : Operations body (r.1 + count_width) (get_or body r.1 0)
-    first_operations = first_branch.0.body
-
     -- begun: the operations of the first branch are ahead
-    pub begin_turn : (buffer : List ℕ) → ((k : ℕ) → get_or body k 0 < 256) → length body ≤ length buffer → (host process : ℕ) → host ≡ get_or body host_at 0 → process ≡ number_at process_at process_width body → (a : Added) (next : List ℕ)
-        → written_is a next ≡ begin_on buffer host process r.0 → Underway body buffer (r.1 + count_width) (get_or body r.1 0) others a.fill next
+    pub begin_turn : (buffer : List ℕ) → ((k : ℕ) → get_or body k 0 < 256) → length body ≤ length buffer → (host process : ℕ) → host ≡ get_or body host_at 0 → process ≡ number_at process_at process_width body → (a : Result ℕ WriteError) (next : List ℕ)
+        → written_is (added a) next ≡ begin_on buffer host process r.0 → Fills a (λ n. Underway body buffer (r.1 + count_width) (get_or body r.1 0) others n next)
     begin_turn buffer byte room host process eh ep a next w =
         let h : NextBranch body branches_at others r.1 = first_branch.0 in
         let g : model.Operation = h.first.guard in
@@ -254,4 +267,8 @@ module _ (body : List ℕ) (is-legal : T (legal_body body)) where
         let q = part_of body part whole ys is one grows in
         let called : begin_on buffer host process r.0 ≡ begin_on buffer whole.host whole.process r.0 = λ i. begin_on buffer ((eh ∙ parts.host) i) ((ep ∙ parts.process) i) r.0 in
         let l = left_by buffer part a next (w ∙ called ∙ begin_front buffer whole.host whole.process r.0 g (read_handed r (operation_at body branches_at) s ∙ ap some first_branch.1) q.0 (omega (arith, q.1))) in
-        record { ahead = branch_ahead body branches_at others r.1 h; so_far = record { whole = whole; is = is; room = room; part = part; one = one; filled = l.0; bytes = l.1; grows = grows } }
+        record {
+          fill = length (statement_bytes part);
+          is = l.0;
+          so = record { ahead = branch_ahead body branches_at others r.1 h; so_far = record { whole = whole; is = is; room = room; part = part; one = one; filled = refl; bytes = l.1; grows = grows } };
+        }

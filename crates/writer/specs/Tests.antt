@@ -14,32 +14,14 @@ use Rattle.statements.specs.declared.Operation.{Operation}
 use Rattle.statements.specs.Flat.{codes, forms, has_form, operation_is}
 use Rattle.writer.specs.Writer.{true_code, is_handed, handed}
 
--- ---- the forms of fields, one by one
-
--- i fields have passed
-pub forms_none : (fields : List Field) → all has_form (take 0 fields) ≡ true
-unfolding all
-forms_none fields = refl
-
-pub forms_more : (fields : List Field) (i : ℕ) (d : Field) → i < length fields → all has_form (take i fields) ≡ true → (get_or fields i d).form < forms → all has_form (take (i + 1) fields) ≡ true
-unfolding all has_form
-forms_more fields i d h e f = rw (add-one i, take-suc fields i d h, all_append has_form (take i fields) (get_or fields i d ∷ []), e, lt-ltb (get_or fields i d).form forms f)
-
--- one does not pass
-pub forms_miss : (fields : List Field) (i n : ℕ) (d : Field) → i < n → i < length fields → forms ≤ (get_or fields i d).form → false ≡ all has_form (take n fields)
-unfolding all has_form
-forms_miss [] i n d h k f = absurd (omega arith)
-forms_miss (x ∷ fields) i zero d h k f = absurd (omega arith)
-forms_miss (x ∷ fields) zero (suc n) d h k f = rw (le-ltb x.form forms f)
-forms_miss (x ∷ fields) (suc i) (suc n) d h k f = rw (← forms_miss fields i n d (omega arith) (omega arith) f, and-false (has_form x))
+-- ---- the forms of fields
 
 -- each has one of the seven
-pub forms_at : (fields : List Field) (i n : ℕ) (d : Field) → T (all has_form (take n fields)) → i < n → i < length fields → (get_or fields i d).form < forms
+pub forms_at : (fields : List Field) (i : ℕ) (d : Field) → T (all has_form fields) → i < length fields → (get_or fields i d).form < forms
 unfolding all has_form
-forms_at [] i n d t h k = absurd (omega arith)
-forms_at (x ∷ fields) i zero d t h k = absurd (omega arith)
-forms_at (x ∷ fields) zero (suc n) d t h k = ltb→lt x.form forms (and_l (has_form x) (all has_form (take n fields)) t)
-forms_at (x ∷ fields) (suc i) (suc n) d t h k = forms_at fields i n d (and_r (has_form x) (all has_form (take n fields)) t) (omega arith) (omega arith)
+forms_at [] i d t h = absurd (omega arith)
+forms_at (x ∷ fields) zero d t h = ltb→lt x.form forms (and_l (has_form x) (all has_form fields) t)
+forms_at (x ∷ fields) (suc i) d t h = forms_at fields i d (and_r (has_form x) (all has_form fields) t) (omega arith)
 
 -- ---- code, field count, forms
 

@@ -1,5 +1,5 @@
 -- "The writer": an AG body that grows by one addition each time, and what a call answers and leaves in the lent buffer. Assumes nothing.
-use Rattle.std.specs.Prelude.{ℕ, Bool, ◌&&◌, ◌||◌, cond, List, [], ◌∷◌, ◌++◌, length, take, drop, leb, ltb, eqb}
+use Rattle.std.specs.Prelude.{ℕ, Bool, ◌&&◌, ◌||◌, cond, List, [], ◌∷◌, ◌++◌, length, take, drop, leb, ltb, eqb, Result, Ok, Err}
 use Rattle.std.proofs.Math.Option.{Option, none, some}
 use Rattle.basis.specs.Choice.{maybe, provided}
 use Rattle.basis.specs.Lists.{all}
@@ -10,7 +10,9 @@ use Rattle.model.specs.Legal.{legal_statement, parse}
 use Rattle.model.specs.Writing.{statement_bytes}
 use Rattle.statements.specs.declared.Operation.{Operation}
 use Rattle.statements.specs.Flat.{codes, has_form, operation_is}
-use Rattle.writer.specs.declared.Added.{Added}
+use Rattle.writer.specs.declared.Reason.{Reason}
+use Rattle.writer.specs.declared.Reason.TheVariants.{Malformed, Short}
+use Rattle.writer.specs.declared.WriteError.{WriteError}
 
 -- ---- an addition
 
@@ -58,7 +60,22 @@ pub record Written : Type 0 where
   pub fill : ℕ
   pub bytes : List ℕ
 
--- what a function answered, and the buffer's bytes at its exit
+-- the number that a call answers (0: done), and the count of filled bytes
+pub record Added : Type 0 where
+  pub answer : ℕ
+  pub fill : ℕ
+
+-- "refused 6", "a short buffer 2"
+abbrev pub number : Reason → ℕ
+number Malformed = 6
+number Short = 2
+
+-- what a function gives back, as a number and a count
+abbrev pub added : Result ℕ WriteError → Added
+added (Ok n) = record { answer = 0; fill = n }
+added (Err e) = record { answer = number e.reason; fill = e.fill }
+
+-- what was answered, and the buffer's bytes at the exit
 unfoldable pub written_is : Added → List ℕ → Written
 written_is r bytes = record { answer = r.answer; fill = r.fill; bytes = bytes }
 

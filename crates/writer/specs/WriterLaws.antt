@@ -14,7 +14,9 @@ use Rattle.model.specs.Legal.{legal_statement, parse, legal_body}
 use Rattle.model.specs.Writing.{statement_bytes}
 use Rattle.model.proofs.RoundTrip.{parse_written}
 use Rattle.statements.specs.declared.Operation.{Operation}
-use Rattle.writer.specs.Writer.{handed, begun, in_last, Written, is_writable, refused_by, filled_with, written, held, begin_on, add_to}
+use Rattle.writer.specs.declared.Reason.{Reason}
+use Rattle.writer.specs.declared.Reason.TheVariants.{Malformed, Short}
+use Rattle.writer.specs.Writer.{handed, begun, in_last, number, Written, is_writable, refused_by, filled_with, written, held, begin_on, add_to}
 
 -- ---- statements that grow
 
@@ -26,6 +28,11 @@ in_last_length (b ∷ []) o = refl
 in_last_length (b ∷ c ∷ bs) o = ap suc (in_last_length (c ∷ bs) o)
 
 -- ---- one answer
+
+-- no refusal is told as 0
+pub number_some : (reason : Reason) → number reason ≡ 0 → ⊥
+number_some Malformed z = omega arith
+number_some Short z = omega arith
 
 -- "the writer comes back with its new count of filled bytes, which are a legal body; bytes past them are unchanged": the body of this statement
 pub record Filled (buffer : List ℕ) (st : Statement) (w : Written) : Type 0 where

@@ -1,43 +1,41 @@
 // The writer of AG bodies: what it is handed, and what it answers.
 #![tactic(auto)]
 
-ghost use Rattle.std.specs.Prelude.{◌≡◌, ◌≤◌, take};
+ghost use Rattle.std.specs.Prelude.{◌≡◌};
 ghost use Rattle.basis.specs.Lists.{all};
-ghost use Rattle.basis.specs.Sizes.{most_fields};
 ghost use Rattle.statements.specs.Flat.{has_form};
-ghost use Rattle.writer.specs.Writer.{is_handed};
+ghost use Rattle.writer.specs.Writer.{is_handed, number};
 
-use statements::{CODES, FORMS, Operation, TRUE};
+use statements::{CODES, FORMS, Field, Operation, TRUE};
 use words::MOST_FIELDS;
 
-// The numbers of "body malformed" and of a short buffer.
-pub const MALFORMED: u8 = 6;
+// Why an addition is refused: it would not leave a legal body, or the buffer is too short for that body. Each has its number.
+#[derive(Clone, Copy, PartialEq, Eq)]
+pub enum Reason {
+    Malformed = 6,
+    Short = 2,
+}
 
-pub const SHORT: u8 = 2;
+impl From<Reason> for u8 {
+    ghost from_gives = { λ reason n. n ≡ number reason };
 
-// What an addition answers, 0 done, 6 or 2 refused, and the count of filled bytes after it.
-#[derive(Clone, Copy)]
-pub struct Added {
-    pub answer: u8,
+    fn from(reason: Reason) -> u8 {
+        reason as u8
+    }
+}
+
+// An addition that is refused: why, and the count of filled bytes, which are as they were.
+#[derive(Clone, Copy, PartialEq, Eq)]
+pub struct WriteError {
+    pub reason: Reason,
     pub fill: usize,
 }
 
-// So many fields are each of one of the seven forms.
-fn forms_ok(op: Operation) -> bool
-    requires { op.count ≤ most_fields }
-    ensures { result ≡ all has_form (take op.count op.fields) }
+// Fields are each of one of the seven forms.
+fn forms_ok(fields: &[Field]) -> bool
+    ensures { result ≡ all has_form fields.now }
 {
-    let fields = op.fields;
-    let count = op.count;
-    let mut i: usize = 0;
-    while i < count {
-        let f = fields[i];
-        if FORMS <= f.form {
-            return false;
-        }
-        i += 1;
-    }
-    true
+    fields.iter().all(|f| f.form < FORMS)
 }
 
 // Whether parts are an operation: one of the eight codes and, but for true, at most six fields of the seven forms. Its
@@ -45,14 +43,6 @@ fn forms_ok(op: Operation) -> bool
 pub fn is_handed(op: Operation) -> bool
     ensures { result ≡ is_handed op }
 {
-    if op.code == TRUE {
-        return true;
-    }
-    if CODES <= op.code {
-        return false;
-    }
-    if MOST_FIELDS < op.count {
-        return false;
-    }
-    forms_ok(op)
+    op.code == TRUE
+        || (op.code < CODES && op.count <= MOST_FIELDS && forms_ok(&op.fields[..op.count]))
 }

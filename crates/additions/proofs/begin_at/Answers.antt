@@ -1,7 +1,5 @@
 -- `additions::begin_at` meets its contract. Assumes nothing.
-use mathlib.Core.Path.{refl, sym, ◌∙◌}
-use native.Mathlib.Omega.{arith}
-use lib.Seq.{length-take-le}
+use Rattle.std.proofs.Common.{sym, ◌∙◌}
 use Rattle.answers.specs.Settled.{refused_is}
 use Rattle.additions.specs.AdditionLaws.{begin_no, begin_done}
 use Rattle.additions.proofs.begin_at.Goals as goal
@@ -10,13 +8,6 @@ pub returns-then-not-is_handed : goal.returns-then-not-is_handed
 returns-then-not-is_handed c =
     let a = c.args in
     refused_is 6 a.buffer.now 0 ∙ begin_no a.buffer.now a.host a.process a.guard (sym c.is_handed.ensures ∙ c.if-not-is_handed.true)
-
-pub compose_begun-n-requires : goal.compose_begun-n-requires
-compose_begun-n-requires c = (refl, sym c.is_handed.ensures ∙ c.if-not-is_handed.false)
-
-pub slice_bounds-settle-end : goal.slice_bounds-settle-end
-slice_bounds-settle-end c =
-    sym (length-take-le c.compose_begun-n.result c.compose_begun-n.new.t (omega (arith, c.compose_begun-n.ensures.0, c.compose_begun-n.auto.t)))
 
 pub returns : goal.returns
 returns c =

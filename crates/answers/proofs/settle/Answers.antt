@@ -1,22 +1,25 @@
 -- `answers::settle` meets its contract. Assumes nothing.
-use mathlib.Core.Path.{◌∙◌}
-use native.Mathlib.Omega.{arith}
-use lib.ListN.{length}
+use Rattle.std.proofs.Common.{◌≡◌, sym, ◌∙◌, arith, length, rules}
+use Rattle.std.proofs.lemmas.Result.{err_from_is_err_and}
 use Rattle.model.specs.Legal.{legal_body}
-use Rattle.answers.specs.Settled.{settled_room, settled_refused, settled_done, refused_is}
+use Rattle.answers.specs.Settled.{refusal_is, settled_room, settled_done, refused_at, refused_at_lem, settled_err, none_refused}
 use Rattle.answers.proofs.settle.Goals as goal
 
-pub returns-then-answer-ne0 : goal.returns-then-answer-ne0
-returns-then-answer-ne0 c =
+pub returns-in_err-map_err : goal.returns-in_err-map_err
+returns-in_err-map_err c =
     let a = c.args in
-    refused_is c.refusal-answer.result a.buffer.now a.fill ∙ settled_refused a.buffer.now a.fill a.body.now c.refusal-answer.result c.refusal-answer.ensures c.if-answer-ne0.true
+    let m : c.map_err.result ≡ refused_at a.fill c.refusal.result = refused_at_lem a.fill c.refusal.result c.map_err.result c.map_err.ensures.cases (λ e d k. search rules) in
+    let p = err_from_is_err_and c.from_residual.result c.from_residual.ensures.1 in
+    rw (p.1, p.2) (settled_err a.buffer.now a.fill a.body.now c.refusal.result c.in_err-map_err.field-0.0 c.refusal.ensures (sym m ∙ c.in_err-map_err.was))
 
 pub copy_at-requires : goal.copy_at-requires
 copy_at-requires c =
     let a = c.args in
-    omega (arith, settled_room (legal_body a.body.now) (length a.body.now) (length a.buffer.now) c.refusal-answer.result c.refusal-answer.ensures c.if-answer-ne0.false)
+    let m : c.map_err.result ≡ refused_at a.fill c.refusal.result = refused_at_lem a.fill c.refusal.result c.map_err.result c.map_err.ensures.cases (λ e d k. search rules) in
+    omega (arith, settled_room (legal_body a.body.now) (length a.body.now) (length a.buffer.now) (refusal_is c.refusal.result) c.refusal.ensures (none_refused a.fill c.refusal.result c.in_ok-map_err.field-0 (sym m ∙ c.in_ok-map_err.was)))
 
 pub returns : goal.returns
 returns c =
     let a = c.args in
-    settled_done a.buffer.now a.fill a.body.now c.refusal-answer.result c.refusal-answer.ensures c.copy_at.new.d c.if-answer-ne0.false c.copy_at.ensures
+    let m : c.map_err.result ≡ refused_at a.fill c.refusal.result = refused_at_lem a.fill c.refusal.result c.map_err.result c.map_err.ensures.cases (λ e d k. search rules) in
+    settled_done a.buffer.now a.fill a.body.now (refusal_is c.refusal.result) c.refusal.ensures c.copy_at.new.d (none_refused a.fill c.refusal.result c.in_ok-map_err.field-0 (sym m ∙ c.in_ok-map_err.was)) c.copy_at.ensures
