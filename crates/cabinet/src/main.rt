@@ -51,7 +51,7 @@ fn read_record(record: &mut [u8]) -> usize
     if head < words::BODY_AT {
         return head;
     }
-    let end = words::BODY_AT + words::word2(record, words::LENGTH_AT) as usize;
+    let end = words::BODY_AT + usize::from(words::word2(record, words::LENGTH_AT));
     words::BODY_AT + io::read_full(STDIN, &mut record[words::BODY_AT..end])
 }
 
@@ -73,7 +73,7 @@ fn answer(state: &mut [u8], record: &[u8], reply: &mut [u8], text: &mut [u8]) ->
     ensures in_bounds { IsPrefixLen result.end text.new }
     ensures is_answered { printed state.new (take result.end text.new) result.more ≡ answered (lent state.old «record».now reply.old) }
 {
-    if record.len() == 0 {
+    if record.is_empty() {
         return Response {
             end: 0,
             more: false,
@@ -148,8 +148,11 @@ fn take_all(
     ensures until_no_record { result.turns ≢ most_turns → result.written ≡ true → is_some (record_of (take result.size «record».new)) ≡ false }
 {
     let mut turn = first;
-    while turn.turns < u64::MAX && turn.more && turn.written {
+    for _ in 0..u64::MAX {
         turn = take_one(turn, state, record, reply, text);
+        if !turn.more || !turn.written {
+            break;
+        }
     }
     turn
 }

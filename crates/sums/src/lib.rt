@@ -34,6 +34,7 @@ fn add_whole(a: i32, b: i32) -> Option<Value>
 }
 
 // Rule 4: a - b, exact, tested before it is computed; 17 exactly outside the range.
+// (A function of its own, not one with `add_whole` by `subtract`: each has its own limits, tested before it computes.)
 fn subtract_whole(a: i32, b: i32) -> Option<Value>
     ensures { sum_is result ≡ answered off_range (exact (a -ℤ b)) }
 {
