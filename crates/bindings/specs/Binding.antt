@@ -1,5 +1,5 @@
 -- What a template binds at a tuple's values, field by field. Assumes nothing.
-use Rattle.std.specs.Prelude.{◌≡◌, ℕ, ◌+◌, ◌≤◌, ◌<◌, true, List, length, take, drop, get_or, set}
+use Rattle.std.specs.Prelude.{◌≡◌, ℕ, ◌+◌, ◌≤◌, ◌<◌, List, length, take, drop, get_or, set, Some}
 use Rattle.std.proofs.Common.{sym, ◌∙◌, arith}
 use Rattle.std.proofs.Math.Option.{some}
 use Rattle.std.proofs.Math.Seq.{set_out}
@@ -16,23 +16,24 @@ use Rattle.tuples.specs.Section.{tuple_at}
 use Rattle.tuples.specs.Entry.{value_at, value_in, values_from}
 use Rattle.tuples.specs.PlaceLaws.{values_of_lem, from_first, from_next}
 use Rattle.bindings.specs.Fields.{fields_drop, fields_past}
+use Rattle.values.specs.declared.Scalar.{Scalar}
+use Rattle.values.specs.Meaning.{scalar_is}
 use Rattle.bindings.specs.declared.Vars.{Vars}
-use Rattle.bindings.specs.Variables.{bindings, bindings_of, bindings_set, bindings_length, Sixteen}
+use Rattle.bindings.specs.Variables.{bindings, bindings_of, bindings_set, bindings_length}
 
 -- ---- one field
 
-module _ (v : Vars) (f : Field) (u : Value) where
+module _ (v : Vars) (f : Field) (u : Scalar) where
   -- it binds
   pub binds : (y : ℕ) → binder_of (field_is f) ≡ some (binder_in f) → y ≡ f.variable
-      → bindings (set v.bound y true) (set v.kinds y u.kind) (set v.bits y u.bits) ≡ bind_field (bindings_of v) (field_is f) u
-  binds y e q = rw (values_set (bindings_of v) (field_is f) u (binder_in f) e, ← q) (bindings_set v.bound v.kinds v.bits y u.kind u.bits)
+      → bindings (set v.values y (Some u)) ≡ bind_field (bindings_of v) (field_is f) (scalar_is u)
+  binds y e q = rw (values_set (bindings_of v) (field_is f) (scalar_is u) (binder_in f) e, ← q) (bindings_set v.values y u)
 
   -- no such variable
-  pub binds_past : (y : ℕ) → Sixteen v → binder_of (field_is f) ≡ some (binder_in f) → y ≡ f.variable → variables ≤ y → bindings_of v ≡ bind_field (bindings_of v) (field_is f) u
+  pub binds_past : (y : ℕ) → length v.values ≡ variables → binder_of (field_is f) ≡ some (binder_in f) → y ≡ f.variable → variables ≤ y → bindings_of v ≡ bind_field (bindings_of v) (field_is f) (scalar_is u)
   binds_past y n e q h =
-      let l : length (bindings_of v) ≡ variables = bindings_length v.bound v.kinds v.bits (n.0 ∙ sym n.1) (n.0 ∙ sym n.2) ∙ n.0 in
-      let past : length (bindings_of v) ≤ y = omega arith in
-      rw (values_set (bindings_of v) (field_is f) u (binder_in f) e, ← q) (sym (set_out (bindings_of v) y (some u) past))
+      let past : length (bindings_of v) ≤ y = omega (arith, bindings_length v.values) in
+      rw (values_set (bindings_of v) (field_is f) (scalar_is u) (binder_in f) e, ← q) (sym (set_out (bindings_of v) y (some (scalar_is u)) past))
 
 -- ---- all of them
 

@@ -22,12 +22,10 @@ use matching::Template;
 use statements::{Field, Operation};
 use values::Scalar;
 
-// The variables of a branch: those that are bound, with kind and bits of their values.
+// The variables of a branch: the values of those that are bound.
 #[derive(Clone, Copy)]
 pub struct Vars {
-    pub bound: [bool; words::VARIABLES],
-    pub kinds: [u8; words::VARIABLES],
-    pub bits: [u32; words::VARIABLES],
+    pub values: [Option<Scalar>; words::VARIABLES],
 }
 
 // A kind and, where one is given, a range of values; that of one value has its bits twice.
@@ -44,9 +42,7 @@ pub fn no_vars() -> Vars
     ensures { bindings_of result ≡ unbound }
 {
     Vars {
-        bound: [false; words::VARIABLES],
-        kinds: [0; words::VARIABLES],
-        bits: [0; words::VARIABLES],
+        values: [None; words::VARIABLES],
     }
 }
 
@@ -56,11 +52,8 @@ fn held(v: Vars, variable: u8) -> Scalar
 {
     let x = words::size(variable);
     if x < words::VARIABLES {
-        if v.bound[x] {
-            return Scalar {
-                kind: v.kinds[x],
-                bits: v.bits[x],
-            };
+        if let Some(value) = v.values[x] {
+            return value;
         }
     }
     Scalar { kind: 0, bits: 0 }
@@ -122,16 +115,14 @@ pub fn template_of(op: Operation, v: Vars) -> Template
 }
 
 // The variables with what a field binds at a value.
-fn bind_field(v: Vars, f: Field, kind: u8, bits: u32) -> Vars
-    ensures { bindings_of result ≡ bind_field (bindings_of v) (field_is f) (value kind bits) }
+fn bind_field(v: Vars, f: Field, value: Scalar) -> Vars
+    ensures { bindings_of result ≡ bind_field (bindings_of v) (field_is f) (scalar_is value) }
 {
     let mut w = v;
     let x = words::size(f.variable);
     if statements::binds(f) {
         if x < words::VARIABLES {
-            w.bound[x] = true;
-            w.kinds[x] = kind;
-            w.bits[x] = bits;
+            w.values[x] = Some(value);
         }
     }
     w
@@ -144,12 +135,11 @@ pub fn bind_at(tuples: &[u8], i: usize, op: Operation, v: Vars) -> Vars
 {
     let mut w = v;
     for j in 0..op.count {
-        w = bind_field(
-            w,
-            op.fields[j],
-            tuples::kind(tuples, i, j),
-            tuples::bits(tuples, i, j),
-        );
+        let value = Scalar {
+            kind: tuples::kind(tuples, i, j),
+            bits: tuples::bits(tuples, i, j),
+        };
+        w = bind_field(w, op.fields[j], value);
     }
     w
 }

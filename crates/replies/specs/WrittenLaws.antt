@@ -1,7 +1,13 @@
 -- The laws of a reply's parts: what the stores leave, and that the parts are the reply. Assumes nothing.
-use Rattle.std.specs.Prelude.{◌≡◌, refl, ℕ, zero, suc, ◌+◌, ◌*◌, ◌≤◌, ◌<◌, ◌%◌, Bool, true, false, cond, length, take, drop, get_or, set, eqb}
+use Rattle.std.specs.Prelude as code
+use Rattle.std.specs.Prelude.{None, Some}
+use Rattle.std.specs.Prelude.{◌≡◌, map, refl, ℕ, zero, suc, ◌+◌, ◌*◌, ◌≤◌, ◌<◌, ◌%◌, Bool, true, false, cond, length, take, drop, get_or, set, eqb}
 use Rattle.std.proofs.Common.{sym, ap, ◌∙◌, arith, add-one, length-append, length-drop, length-set, take_all, take-suc, length-take-le}
 use Rattle.std.proofs.Math.Option.{Option, none, some}
+use Rattle.std.proofs.Math.ListN.{get_or-map}
+use Rattle.std.proofs.lemmas.List.{length-map}
+use Rattle.values.specs.declared.Scalar.{Scalar}
+use Rattle.values.specs.Meaning.{scalar_is, scalar_given}
 use mathlib.Core.List.{List, [], ◌∷◌, ◌++◌, flat_map, append_assoc, append-nil}
 use Rattle.basis.specs.Choice.{maybe, provided}
 use Rattle.basis.specs.Numbers.{big_endian}
@@ -71,46 +77,46 @@ unfolding values_bytes flat_map
 values_more [] v = append-nil (reply_value v)
 values_more (u ∷ vs) v = ap (λ (l : List ℕ). reply_value u ++ l) (values_more vs v) ∙ sym (append_assoc (reply_value u) (flat_map reply_value vs) (reply_value v))
 
-module _ (bs : List Bool) (ks ns : List ℕ) where
-  pub bound_yes : (x : ℕ) → get_or bs x false ≡ true → bound_to (x + 1) bs ks ns ≡ bound_to x bs ks ns ++ ((x, value (get_or ks x 0) (get_or ns x 0)) ∷ [])
+module _ (ss : List (code.Option Scalar)) where
+  pub bound_yes : (x : ℕ) (s : Scalar) → get_or ss x None ≡ Some s → bound_to (x + 1) ss ≡ bound_to x ss ++ ((x, scalar_is s) ∷ [])
   unfolding bound_to
-  bound_yes x e = rw (add-one x, e)
+  bound_yes x s e = rw (add-one x, e)
 
-  pub bound_no : (x : ℕ) → get_or bs x false ≡ false → bound_to (x + 1) bs ks ns ≡ bound_to x bs ks ns
+  pub bound_no : (x : ℕ) → get_or ss x None ≡ None → bound_to (x + 1) ss ≡ bound_to x ss
   unfolding bound_to
-  bound_no x e = rw (add-one x, e) (append-nil (bound_to x bs ks ns))
+  bound_no x e = rw (add-one x, e) (append-nil (bound_to x ss))
 
   -- ---- the loop over the variables
 
   -- what stands after the variables below x
   pub record Passed (x : ℕ) (d out : List ℕ) (count : ℕ) : Type 0 where
-    pub number : count ≡ length (bound_to x bs ks ns)
+    pub number : count ≡ length (bound_to x ss)
     pub few : count ≤ x
-    pub bytes : out ≡ over d reply_header_size (values_bytes (bound_to x bs ks ns)) (count * reply_value_size)
+    pub bytes : out ≡ over d reply_header_size (values_bytes (bound_to x ss)) (count * reply_value_size)
 
   pub passed_none : (d : List ℕ) → Passed 0 d d 0
   unfolding bound_to
   passed_none d = record { number = refl; few = omega arith; bytes = over_none d reply_header_size (values_bytes []) }
 
-  pub passed_yes : (x : ℕ) (d out out' : List ℕ) (count : ℕ) → get_or bs x false ≡ true → reply_header_size + (count + 1) * reply_value_size ≤ length d → Passed x d out count
-      → out' ≡ over out (reply_header_size + count * reply_value_size) (reply_value (x, value (get_or ks x 0) (get_or ns x 0))) reply_value_size → Passed (x + 1) d out' (count + 1)
-  passed_yes x d out out' count b room p e =
-      let vs : List (ℕ × Value) = bound_to x bs ks ns in
-      let v : ℕ × Value = (x, value (get_or ks x 0) (get_or ns x 0)) in
+  pub passed_yes : (x : ℕ) (s : Scalar) (d out out' : List ℕ) (count : ℕ) → get_or ss x None ≡ Some s → reply_header_size + (count + 1) * reply_value_size ≤ length d → Passed x d out count
+      → out' ≡ over out (reply_header_size + count * reply_value_size) (reply_value (x, scalar_is s)) reply_value_size → Passed (x + 1) d out' (count + 1)
+  passed_yes x s d out out' count b room p e =
+      let vs : List (ℕ × Value) = bound_to x ss in
+      let v : ℕ × Value = (x, scalar_is s) in
       let l : length (values_bytes vs) ≡ count * reply_value_size = values_length vs ∙ ap (λ (n : ℕ). n * reply_value_size) (sym p.number) in
       let n : (count + 1) * reply_value_size ≡ count * reply_value_size + reply_value_size = omega arith in
       record {
-        number = rw (bound_yes x b) (sym (length-append vs (v ∷ []) ∙ omega (arith, p.number)));
+        number = rw (bound_yes x s b) (sym (length-append vs (v ∷ []) ∙ omega (arith, p.number)));
         few = omega (arith, p.few);
-        bytes = rw (bound_yes x b, values_more vs v, n)
+        bytes = rw (bound_yes x s b, values_more vs v, n)
             (e ∙ ap (λ (r : List ℕ). over r (reply_header_size + count * reply_value_size) (reply_value v) reply_value_size) p.bytes ∙ over_append d reply_header_size (values_bytes vs) (count * reply_value_size) (reply_value v) reply_value_size (omega arith) l);
       }
 
-  pub passed_no : (x : ℕ) (d out : List ℕ) (count : ℕ) → get_or bs x false ≡ false → Passed x d out count → Passed (x + 1) d out count
+  pub passed_no : (x : ℕ) (d out : List ℕ) (count : ℕ) → get_or ss x None ≡ None → Passed x d out count → Passed (x + 1) d out count
   passed_no x d out count b p = record { number = rw (bound_no x b) p.number; few = omega (arith, p.few); bytes = rw (bound_no x b) p.bytes }
 
   -- all variables are passed
-  pub put_all : (x : ℕ) (d out : List ℕ) (count : ℕ) → x ≡ variables → Passed x d out count → PutValues (bound_to variables bs ks ns) d out count
+  pub put_all : (x : ℕ) (d out : List ℕ) (count : ℕ) → x ≡ variables → Passed x d out count → PutValues (bound_to variables ss) d out count
   put_all x d out count e p = rw (← e) (record { number = p.number; few = omega (arith, p.few); bytes = p.bytes })
 
 -- ---- the whole reply
@@ -151,13 +157,13 @@ unfolding values_bytes flat_map
 put_one d out v e = record { number = refl; few = omega arith; bytes = rw (append-nil (reply_value v)) e }
 
 -- "A refused record has no values"
-pub ran_failed : (outcome : ℕ) (bs : List Bool) (ks ns : List ℕ) → eqb outcome 0 ≡ false → ran_values outcome bs ks ns ≡ []
+pub ran_failed : (outcome : ℕ) (ss : List (code.Option Scalar)) → eqb outcome 0 ≡ false → ran_values outcome ss ≡ []
 unfolding ran_values
-ran_failed outcome bs ks ns e = rw e
+ran_failed outcome ss e = rw e
 
-pub ran_done : (outcome : ℕ) (bs : List Bool) (ks ns : List ℕ) → eqb outcome 0 ≡ true → ran_values outcome bs ks ns ≡ bound_to variables bs ks ns
+pub ran_done : (outcome : ℕ) (ss : List (code.Option Scalar)) → eqb outcome 0 ≡ true → ran_values outcome ss ≡ bound_to variables ss
 unfolding ran_values
-ran_done outcome bs ks ns e = rw e
+ran_done outcome ss e = rw e
 
 -- ---- the bound variables, as the run keeps them
 
@@ -168,17 +174,12 @@ bound_append x [] (some v) = let e : x ≡ x + 0 = omega arith in λ i. (e i, v)
 bound_append x (none ∷ bs) b = let e : suc x + length bs ≡ x + suc (length bs) = omega arith in rw (bound_append (suc x) bs b, e)
 bound_append x (some u ∷ bs) b = let e : suc x + length bs ≡ x + suc (length bs) = omega arith in rw (bound_append (suc x) bs b, e)
 
--- bindings whose every entry is what the three lists say at its place
-pub bound_from_lem : (bs : List Bool) (ks ns : List ℕ) (vs : Bindings) → ((x : ℕ) → get_or vs x none ≡ provided (get_or bs x false) (value (get_or ks x 0) (get_or ns x 0)))
-    → (n : ℕ) → n ≤ length vs → bound_to n bs ks ns ≡ bound_from 0 (take n vs)
-unfolding bound_to bound_from provided
-bound_from_lem bs ks ns vs at zero h = refl
-bound_from_lem bs ks ns vs at (suc n) h =
+pub bound_from_lem : (ss : List (code.Option Scalar)) (n : ℕ) → n ≤ length ss → bound_to n ss ≡ bound_from 0 (take n (map scalar_given ss))
+unfolding bound_to bound_from
+bound_from_lem ss zero h = refl
+bound_from_lem ss (suc n) h =
+    let vs : Bindings = map scalar_given ss in
+    let l : length vs ≡ length ss = length-map ss scalar_given in
     let k : length (take n vs) ≡ n = length-take-le n vs (omega arith) in
     let place : 0 + length (take n vs) ≡ n = omega arith in
-    rw (take-suc vs n none h, bound_append 0 (take n vs) (get_or vs n none), ← bound_from_lem bs ks ns vs at n (omega arith), at n)
-    (ap (λ (l : List (ℕ × Value)). bound_to n bs ks ns ++ l) (sym (last (get_or bs n false) (value (get_or ks n 0) (get_or ns n 0)) (0 + length (take n vs)) n place)))
-  where
-    last : (b : Bool) (v : Value) (x y : ℕ) → x ≡ y → maybe {B = List (ℕ × Value)} (cond b (some v) none) [] (λ (u : Value). (x, u) ∷ []) ≡ cond {A = List (ℕ × Value)} b ((y, v) ∷ []) []
-    last true v x y e = λ i. (e i, v) ∷ []
-    last false v x y e = refl
+    rw (take-suc vs n none (omega arith), bound_append 0 (take n vs) (get_or vs n none), ← bound_from_lem ss n (omega arith), get_or-map scalar_given ss n None, place)

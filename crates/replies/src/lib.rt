@@ -4,10 +4,12 @@
 ghost use Rattle.std.specs.Prelude.{◌≡◌, [], ◌+◌, ◌≤◌, length};
 ghost use Rattle.basis.specs.Sizes.{variables, reply_header_size, reply_value_size, most_reply};
 ghost use Rattle.words.specs.Over.{over};
-ghost use Rattle.model.specs.Value.{value};
+ghost use Rattle.values.specs.Meaning.{scalar_is};
 ghost use Rattle.model.specs.Step.{in_variable0};
 ghost use Rattle.layout.specs.Replies.{reply_value};
 ghost use Rattle.replies.specs.Written.{head_bytes, bound_to, PutValues, reply, ran_values, Wrote};
+
+use values::Scalar;
 
 // "`RP`, position of the record answered (4), host, process (2), outcome, branch, value count".
 fn put_head(
@@ -32,34 +34,28 @@ fn put_head(
 }
 
 // "per value: variable, kind, 4 bytes".
-fn put_value(out: &mut [u8], at: usize, variable: u8, kind: u8, bits: u32)
+fn put_value(out: &mut [u8], at: usize, variable: u8, value: Scalar)
     requires { at + reply_value_size ≤ length out.old }
-    ensures { out.new ≡ over out.old at (reply_value (variable, value kind bits)) reply_value_size }
+    ensures { out.new ≡ over out.old at (reply_value (variable, scalar_is value)) reply_value_size }
 {
     out[at] = variable;
-    out[at + words::REPLY_KIND_AT] = kind;
-    words::put4(out, at + words::REPLY_BITS_AT, bits);
+    out[at + words::REPLY_KIND_AT] = value.kind;
+    words::put4(out, at + words::REPLY_BITS_AT, value.bits);
 }
 
 // "A statement's values are all its bound variables in rising number": from the end of the head on; their count.
-fn put_values(
-    out: &mut [u8],
-    bound: [bool; words::VARIABLES],
-    kinds: [u8; words::VARIABLES],
-    bits: [u32; words::VARIABLES],
-) -> usize
+fn put_values(out: &mut [u8], values: &[Option<Scalar>; words::VARIABLES]) -> usize
     requires { most_reply ≤ length out.old }
-    ensures { PutValues (bound_to variables bound kinds bits) out.old out.new result }
+    ensures { PutValues (bound_to variables values.now) out.old out.new result }
 {
     let mut count = 0;
-    for (x, &is_bound) in bound.iter().enumerate() {
-        if is_bound {
+    for (x, value) in values.iter().enumerate() {
+        if let Some(v) = *value {
             put_value(
                 out,
                 words::REPLY_HEADER + count * words::REPLY_VALUE,
                 x as u8,
-                kinds[x],
-                bits[x],
+                v,
             );
             count += 1;
         }
@@ -81,7 +77,7 @@ pub fn number_reply(out: &mut [u8], position: u32, host: u8, process: u16, n: u3
     requires { reply_header_size + reply_value_size ≤ length out.old }
     ensures { Wrote (reply position host process 0 0 (in_variable0 n)) out.old out.new result }
 {
-    put_value(out, words::REPLY_HEADER, 0, 0, n);
+    put_value(out, words::REPLY_HEADER, 0, Scalar { kind: 0, bits: n });
     put_head(out, position, host, process, 0, 0, 1);
     words::REPLY_HEADER + words::REPLY_VALUE
 }
@@ -94,18 +90,16 @@ pub fn ran_reply(
     process: u16,
     outcome: u8,
     branch: u8,
-    bound: [bool; words::VARIABLES],
-    kinds: [u8; words::VARIABLES],
-    bits: [u32; words::VARIABLES],
+    values: &[Option<Scalar>; words::VARIABLES],
 ) -> usize
     requires { most_reply ≤ length out.old }
-    ensures { Wrote (reply position host process outcome branch (ran_values outcome bound kinds bits)) out.old out.new result }
+    ensures { Wrote (reply position host process outcome branch (ran_values outcome values.now)) out.old out.new result }
 {
     if outcome != 0 {
         put_head(out, position, host, process, outcome, branch, 0);
         return words::REPLY_HEADER;
     }
-    let count = put_values(out, bound, kinds, bits);
+    let count = put_values(out, values);
     put_head(out, position, host, process, outcome, branch, count as u8);
     words::REPLY_HEADER + count * words::REPLY_VALUE
 }

@@ -1,4 +1,6 @@
 -- The reply to a statement that ran, and none to one that did not. Assumes nothing.
+use Rattle.std.specs.Prelude as code
+use Rattle.std.specs.Prelude.{None}
 use Rattle.std.specs.Prelude.{◌≡◌, ℕ, zero, suc, ◌≤◌, Bool, true, false, cond, length, get_or, eqb}
 use Rattle.std.proofs.Math.Path.{refl}
 use Rattle.std.proofs.Common.{sym, ap, subst, ◌∙◌, arith, length-append}
@@ -6,7 +8,9 @@ use Rattle.std.proofs.Math.Option.{Option, none, some, map, none-ne-some}
 use mathlib.Core.List.{List, [], ◌∷◌, ◌++◌, flat_map, append-nil}
 use Rattle.basis.specs.Choice.{maybe}
 use Rattle.basis.specs.Sizes.{variables, most_reply}
-use Rattle.model.specs.Value.{Value, value}
+use Rattle.model.specs.Value.{Value}
+use Rattle.values.specs.declared.Scalar.{Scalar}
+use Rattle.values.specs.Meaning.{scalar_given}
 use Rattle.model.specs.Statement.{Statement}
 use Rattle.model.specs.Execution.{chosen, Executed, execute, attempt, tuples_after}
 use Rattle.walk.specs.declared.Choice.{Choice}
@@ -26,26 +30,26 @@ turned_still s state out h = record { stored = h; bytes = refl; number = refl }
 
 -- ---- no longer than a reply with all variables
 
-bound_few : (n : ℕ) (bs : List Bool) (ks ns : List ℕ) → length (bound_to n bs ks ns) ≤ n
+bound_few : (n : ℕ) (ss : List (code.Option Scalar)) → length (bound_to n ss) ≤ n
 unfolding bound_to
-bound_few zero bs ks ns = omega arith
-bound_few (suc x) bs ks ns = go (get_or bs x false) (bound_few x bs ks ns)
+bound_few zero ss = omega arith
+bound_few (suc x) ss = go (scalar_given (get_or ss x None)) (bound_few x ss)
   where
-    go : (b : Bool) → length (bound_to x bs ks ns) ≤ x → length (bound_to x bs ks ns ++ cond b ((x, value (get_or ks x 0) (get_or ns x 0)) ∷ []) []) ≤ suc x
-    go true h = omega (arith, length-append (bound_to x bs ks ns) ((x, value (get_or ks x 0) (get_or ns x 0)) ∷ []))
-    go false h = omega (arith, ap length (append-nil (bound_to x bs ks ns)))
+    go : (o : Option Value) → length (bound_to x ss) ≤ x → length (bound_to x ss ++ maybe {B = List (ℕ × Value)} o [] (λ v. (x, v) ∷ [])) ≤ suc x
+    go (some v) h = omega (arith, length-append (bound_to x ss) ((x, v) ∷ []))
+    go none h = omega (arith, ap length (append-nil (bound_to x ss)))
 
-values_few : (outcome : ℕ) (bs : List Bool) (ks ns : List ℕ) → length (ran_values outcome bs ks ns) ≤ variables
+values_few : (outcome : ℕ) (ss : List (code.Option Scalar)) → length (ran_values outcome ss) ≤ variables
 unfolding ran_values
-values_few outcome bs ks ns = go (eqb outcome 0)
+values_few outcome ss = go (eqb outcome 0)
   where
-    go : (b : Bool) → length (cond b (bound_to variables bs ks ns) []) ≤ variables
-    go true = bound_few variables bs ks ns
+    go : (b : Bool) → length (cond b (bound_to variables ss) []) ≤ variables
+    go true = bound_few variables ss
     go false = omega arith
 
-pub ran_short : (p h q outcome branch : ℕ) (bs : List Bool) (ks ns : List ℕ) (buffer out : List ℕ) (n : ℕ) → Wrote (reply p h q outcome branch (ran_values outcome bs ks ns)) buffer out n → n ≤ most_reply
-ran_short p h q outcome branch bs ks ns buffer out n w =
-    omega (arith, w.number, reply_length (reply p h q outcome branch (ran_values outcome bs ks ns)), values_few outcome bs ks ns)
+pub ran_short : (p h q outcome branch : ℕ) (ss : List (code.Option Scalar)) (buffer out : List ℕ) (n : ℕ) → Wrote (reply p h q outcome branch (ran_values outcome ss)) buffer out n → n ≤ most_reply
+ran_short p h q outcome branch ss buffer out n w =
+    omega (arith, w.number, reply_length (reply p h q outcome branch (ran_values outcome ss)), values_few outcome ss)
 
 -- ---- what came of the attempt
 

@@ -22,7 +22,7 @@ use Rattle.replies.specs.Written.{bound_to, ran_values}
 use Rattle.replies.specs.WrittenLaws.{ran_failed, bound_from_lem}
 use Rattle.state.specs.Changes.{tuples_changed}
 use Rattle.bindings.specs.declared.Vars.{Vars}
-use Rattle.bindings.specs.Variables.{bindings_of, bindings_at, bindings_length, Sixteen}
+use Rattle.bindings.specs.Variables.{bindings_of, bindings_length}
 use Rattle.operations.specs.Performing.{result_is}
 use Rattle.engine.specs.Attempting.{ran_is, Attempted}
 use Rattle.running.specs.Executed.{MayRun, Left}
@@ -31,16 +31,14 @@ use Rattle.state.specs.Lent.{tuples_read}
 -- ---- the answer
 
 -- the values of the variables as the run has them
-bound_is_lem : (v : Vars) → Sixteen v → bound_to variables v.bound v.kinds v.bits ≡ bound_from 0 (bindings_of v)
+bound_is_lem : (v : Vars) → length v.values ≡ variables → bound_to variables v.values ≡ bound_from 0 (bindings_of v)
 bound_is_lem v n =
-    let l : length (bindings_of v) ≡ variables = bindings_length v.bound v.kinds v.bits (n.0 ∙ sym n.1) (n.0 ∙ sym n.2) ∙ n.0 in
-    bound_from_lem v.bound v.kinds v.bits (bindings_of v) (λ x. bindings_at v.bound v.kinds v.bits x (n.0 ∙ sym n.1) (n.0 ∙ sym n.2)) variables (omega arith)
-    ∙ ap (bound_from 0) (take_all variables (bindings_of v) (omega arith))
+    bound_from_lem v.values variables (omega arith) ∙ ap (bound_from 0) (take_all variables (bindings_of v) (omega (arith, bindings_length v.values)))
 
-values_are : (outcome : ℕ) (v : Vars) (ts : List Tuple) → Sixteen v → ran_values outcome v.bound v.kinds v.bits ≡ values_of (result_is outcome (bindings_of v) ts)
+values_are : (outcome : ℕ) (v : Vars) (ts : List Tuple) → length v.values ≡ variables → ran_values outcome v.values ≡ values_of (result_is outcome (bindings_of v) ts)
 unfolding ran_values result_is values_of
 values_are zero v ts n = bound_is_lem v n
-values_are (suc k) v ts n = ran_failed (suc k) v.bound v.kinds v.bits (ne_eqb (suc k) 0 (λ e. absurd (omega arith)))
+values_are (suc k) v ts n = ran_failed (suc k) v.values (ne_eqb (suc k) 0 (λ e. absurd (omega arith)))
 
 outcome_is : (outcome : ℕ) (v : Vars) (ts : List Tuple) → outcome ≡ outcome_of (result_is outcome (bindings_of v) ts)
 unfolding result_is outcome_of
@@ -53,8 +51,8 @@ module _ (o : Option Executed) (outcome : ℕ) (v : Vars) (after : List Tuple) w
   branch_is zero q = rw (← q)
   branch_is (suc k) q = rw (← q)
 
-  answer_is : (number : ℕ) → ran_is number outcome (bindings_of v) after ≡ o → Sixteen v → (e : Executed) → o ≡ some e
-      → (outcome ≡ outcome_of e.result) × (ran_values outcome v.bound v.kinds v.bits ≡ values_of e.result)
+  answer_is : (number : ℕ) → ran_is number outcome (bindings_of v) after ≡ o → length v.values ≡ variables → (e : Executed) → o ≡ some e
+      → (outcome ≡ outcome_of e.result) × (ran_values outcome v.values ≡ values_of e.result)
   unfolding ran_is
   answer_is zero q n e r = absurd (none-ne-some e (q ∙ r))
   answer_is (suc k) q n e r =
@@ -73,9 +71,9 @@ module _ (b : List ℕ) (n : ℕ) (h : IsStored b) (e : n ≡ length (decode b).
   after_fit body m t (some x) q = ran_fit (decode b) h.fit (statement_of body) x (parse_again body (statement_of body) t (legal_parse body m.legal)) m.opened q
 
   -- what stands after it
-  pub left : (body p out : List ℕ) (m branch outcome : ℕ) (v : Vars) → MayRun (decode b) body → T (are_bytes body) → Sixteen v
+  pub left : (body p out : List ℕ) (m branch outcome : ℕ) (v : Vars) → MayRun (decode b) body → T (are_bytes body) → length v.values ≡ variables
       → Attempted (attempt (tuples_of (tuples_lent b) n) (statement_of body)) (tuples_of (tuples_lent b) n) branch outcome m v p → out ≡ with_row tuple_count_part m (with_part tuples_part b p)
-      → Left (decode b) (attempt (decode b).tuples (statement_of body)) out branch outcome (ran_values outcome v.bound v.kinds v.bits)
+      → Left (decode b) (attempt (decode b).tuples (statement_of body)) out branch outcome (ran_values outcome v.values)
   left body p out m branch outcome v may t sixteen did put =
       let s : Run = decode b in
       let o : Option Executed = attempt s.tuples (statement_of body) in

@@ -17,7 +17,7 @@ use walk::Choice;
 // Rules 3 to 5 on the tuples of a state, with their count: the branch that was chosen.
 fn execute_in(state: &mut [u8], body: &[u8], choice: Choice) -> Ran
     requires { IsStored state.old × MayRun (decode state.old) body.now × Picked (decode state.old) body.now choice }
-    ensures { Left (decode state.old) (attempt (decode state.old).tuples (statement_of body.now)) state.new result.branch result.outcome (ran_values result.outcome result.vars.bound result.vars.kinds result.vars.bits) }
+    ensures { Left (decode state.old) (attempt (decode state.old).tuples (statement_of body.now)) state.new result.branch result.outcome (ran_values result.outcome result.vars.values) }
 {
     let n = header::tuple_count(state);
     let ran = engine::execute(
@@ -42,10 +42,6 @@ pub fn run_chosen(
     ensures { Turned (executed (decode state.old) position (statement_of body.now)) out.old state.new out.new result × (result ≤ most_reply) }
 {
     let ran = execute_in(state, body, choice);
-    let vars = ran.vars;
-    let bound = vars.bound;
-    let kinds = vars.kinds;
-    let bits = vars.bits;
     replies::ran_reply(
         out,
         position,
@@ -53,9 +49,7 @@ pub fn run_chosen(
         words::word2(body, words::PROCESS_AT),
         ran.outcome,
         ran.branch,
-        bound,
-        kinds,
-        bits,
+        &ran.vars.values,
     )
 }
 

@@ -15,4 +15,4 @@ pub shape_of-out : goal.shape_of-out
 shape_of-out c = simp length-set at c.put4.auto.d
 
 pub returns : goal.returns
-returns c = let a = c.args in c.put4.ensures ∙ value_stored a.out.now a.at a.variable a.kind a.bits (omega arith)
+returns c = let a = c.args in c.put4.ensures ∙ value_stored a.out.now a.at a.variable a.value.kind a.value.bits (omega arith)

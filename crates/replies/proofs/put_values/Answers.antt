@@ -2,10 +2,10 @@
 use native.Mathlib.Omega.{arith}
 use Rattle.replies.specs.WrittenLaws.{passed_none, passed_yes, passed_no, put_all}
 use Rattle.replies.proofs.put_values.Goals as goal
-use Rattle.replies.proofs.put_values.Goals.{then-is_bound, else-is_bound}
+use Rattle.replies.proofs.put_values.Goals.{in-Some, in_default}
 
 pub loop-x-init : goal.loop-x-init
-loop-x-init c = let a = c.args in passed_none a.bound a.kinds a.bits a.out.now
+loop-x-init c = let a = c.args in passed_none a.values.now a.out.now
 
 pub overflow_mul-count : goal.overflow_mul-count
 overflow_mul-count c = omega (arith, c.loop-x.invariant.few)
@@ -16,18 +16,20 @@ overflow_add-count c = omega (arith, c.loop-x.invariant.few)
 pub put_value-requires : goal.put_value-requires
 put_value-requires c = omega (arith, c.loop-x.invariant.few)
 
-pub overflow_add-count-then-is_bound : goal.overflow_add-count-then-is_bound
-overflow_add-count-then-is_bound c = omega (arith, c.loop-x.invariant.few)
+pub overflow_add-count-in-Some : goal.overflow_add-count-in-Some
+overflow_add-count-in-Some c = omega (arith, c.loop-x.invariant.few)
 
 pub loop-x-preserved : goal.loop-x-preserved
-loop-x-preserved c = let a = c.args in
+loop-x-preserved c =
+    let a = c.args in
     let p = c.loop-x.invariant in
-    elim c.if-is_bound.branch [
-      | then-is_bound w ↦ 
-        rw (w.out-is, w.count-is) (passed_yes a.bound a.kinds a.bits c.loop-x.x a.out.now c.loop-x.out w.put_value.new.out c.loop-x.count w.if-is_bound.true (omega (arith, p.few)) p w.put_value.ensures)
-      | else-is_bound w ↦ rw (w.out-is, w.count-is) (passed_no a.bound a.kinds a.bits c.loop-x.x a.out.now c.loop-x.out c.loop-x.count w.if-is_bound.false p)
+    elim c.match-value.branch [
+      | in-Some w ↦
+          rw (w.out-is, w.count-is)
+          (passed_yes a.values.now c.loop-x.x w.in-Some.v a.out.now c.loop-x.out w.put_value.new.out c.loop-x.count w.in-Some.is (omega (arith, p.few)) p w.put_value.ensures)
+      | in_default w ↦ rw (w.out-is, w.count-is) (passed_no a.values.now c.loop-x.x a.out.now c.loop-x.out c.loop-x.count w.in_default.is p)
     ]
 
 pub returns : goal.returns
 returns c = let a = c.args in
-    put_all a.bound a.kinds a.bits c.loop-x.x a.out.now c.loop-x.out c.loop-x.count (omega arith) c.loop-x.invariant
+    put_all a.values.now c.loop-x.x a.out.now c.loop-x.out c.loop-x.count (omega arith) c.loop-x.invariant

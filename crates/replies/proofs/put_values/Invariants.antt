@@ -3,4 +3,4 @@ use Rattle.replies.specs.WrittenLaws.{Passed}
 use Rattle.replies.proofs.put_values.Given as goal
 
 abbrev pub invariant-loop-x : goal.invariant-loop-x
-invariant-loop-x l = Passed l.fn.bound l.kinds l.bits l.x l.initial.out l.out l.count
+invariant-loop-x l = Passed l.values l.x l.initial.out l.out l.count

@@ -1,15 +1,19 @@
 -- `running::execute_in` meets its contract. Assumes nothing.
+use borrow.Author.Rules.{rules}
+use mathlib.Core.Path.{◌≡◌}
+use lib.ListN.{length}
 use native.Mathlib.Omega.{arith}
 use Rattle.basis.specs.NumberLaws.{bytes_of_lem}
-use Rattle.bindings.specs.Variables.{Sixteen}
+use Rattle.basis.specs.Sizes.{variables}
+use Rattle.bindings.specs.Fields.{length_mapped}
 use Rattle.state.specs.Lent.{tuples_read, is_section}
 use Rattle.running.specs.Attempts.{left}
 use Rattle.running.proofs.execute_in.Goals as goal
 use Rattle.running.proofs.execute_in.Goals.{After-execute-ran}
 
 -- the arrays of the answer
-sixteen : (c : After-execute-ran) → Sixteen c.execute-ran.result.vars
-sixteen c = (omega arith, omega arith, omega arith)
+sixteen : (c : After-execute-ran) → length c.execute-ran.result.vars.values ≡ variables
+sixteen c = search (rules, length_mapped)
 
 pub execute-ran-requires : goal.execute-ran-requires
 execute-ran-requires c =

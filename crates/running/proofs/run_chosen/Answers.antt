@@ -16,7 +16,7 @@ use Rattle.running.proofs.run_chosen.Goals.{After-execute_in-ran}
 -- the branch has run
 module _ (c : After-execute_in-ran) where
   abbrev values : List (ℕ × Value)
-  values = let r = c.execute_in-ran.result in ran_values r.outcome r.vars.bound r.vars.kinds r.vars.bits
+  values = let r = c.execute_in-ran.result in ran_values r.outcome r.vars.values
 
   body : BodyParts c.args.body.now (statement_of c.args.body.now)
   body = body_is c.args.body.now c.requires.1.legal
@@ -35,5 +35,5 @@ returns c =
     let b = body (goal.at.returns c).After-execute_in-ran in (
       run_some (decode a.state.now) a.position (statement_of a.body.now) c.execute_in-ran.new.state r.branch r.outcome (values (goal.at.returns c).After-execute_in-ran) _ c.word2.result a.out.now w.new.out w.result
           c.execute_in-ran.ensures (picked_runs (decode a.state.now) a.body.now a.choice c.requires.2) b.host (c.word2.ensures ∙ b.process) w.ensures,
-      ran_short a.position _ c.word2.result r.outcome r.branch r.vars.bound r.vars.kinds r.vars.bits a.out.now w.new.out w.result w.ensures,
+      ran_short a.position _ c.word2.result r.outcome r.branch r.vars.values a.out.now w.new.out w.result w.ensures,
     )
