@@ -42,6 +42,7 @@ struct Turn {
 
 // Reads a record into the front of the buffer, and gives its size: less than it should be where the input ends within it, 0 where it
 // has ended before. A read that fails is taken for the end, as in `io`. It reads no byte past the record.
+// A size of 0 is a count of bytes like any other, as of a reader's at its end: no option.
 fn read_record(record: &mut [u8]) -> usize
     requires { body_at + most_length ≤ length «record».old }
     ensures in_bounds { IsPrefixLen result «record».new }

@@ -82,21 +82,13 @@ fn write_choice(body: &mut [u8]) -> Result<usize, WriteError> {
 // true then out(0, name 8, 41).
 fn write_out(body: &mut [u8]) -> Result<usize, WriteError> {
     let begun = additions::begin_at(body, 2, 6, always())?;
-    additions::operation_at(
-        body,
-        begun,
-        operation(OUT, 8, field(GIVEN, WHOLE, 0, 41)),
-    )
+    additions::operation_at(body, begun, operation(OUT, 8, field(GIVEN, WHOLE, 0, 41)))
 }
 
 // true then out(0, name 7, variable 0 plus 1): no operation before it binds the variable.
 fn write_unbound(body: &mut [u8]) -> Result<usize, WriteError> {
     let begun = additions::begin_at(body, 2, 7, always())?;
-    additions::operation_at(
-        body,
-        begun,
-        operation(OUT, 7, field(PLUS, WHOLE, 0, 1)),
-    )
+    additions::operation_at(body, begun, operation(OUT, 7, field(PLUS, WHOLE, 0, 1)))
 }
 
 // ---- records

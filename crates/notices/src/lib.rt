@@ -94,7 +94,8 @@ fn notify(state: &mut [u8], monitor: usize, host: u8)
     }
 }
 
-// Rule 6: "for each monitor number in rising order".
+// Rule 6: "for each monitor number in rising order". The loop counts from 0: a range that includes its end has two ways out, each
+// to be proved.
 pub fn crash(state: &mut [u8], host: u8)
     requires { IsStored state.old × (host < hosts) × (host_up (decode state.old) host ≡ true) }
     ensures { Stored state.new (crashed (decode state.old) host) }

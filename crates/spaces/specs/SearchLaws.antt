@@ -15,8 +15,9 @@ use Rattle.layout.specs.States.{space_read}
 use Rattle.std.proofs.Math.Option.{some, none}
 use Rattle.std.specs.Prelude as code
 use Rattle.std.specs.Bool.{then_some}
-use Rattle.basis.specs.Choice.{provided, given}
+use Rattle.basis.specs.Choice.{given}
 use Rattle.sections.specs.Rows.{index_of}
+use Rattle.sections.specs.Loops.{first_some, first_none}
 use Rattle.sections.specs.RowLaws.{number_in_lem}
 use Rattle.sections.specs.Shapes.{get_d_member, item_at, items_length}
 use Rattle.spaces.specs.Spaces.{space_shape, spaces_of, Rising, numbered, place_of, no_space}
@@ -137,12 +138,12 @@ module _ (p : List ℕ) (n m : ℕ) (rise : Rising (spaces_of p n)) where
   among_none low left a h = sym count ∙ index_nowhere ss m (λ j k q. omega (arith, count, a.some (omega (arith, count))))
 
   place_some : (i : ℕ) → i < n → number_in ss i ≡ m → some i ≡ place_of m ss
-  unfolding place_of provided
-  place_some i h e = rw (← place_here i h e, count, lt-ltb i n h)
+  unfolding place_of
+  place_some i h e = first_some (numbered m) ss i (place_here i h e) (omega (arith, count))
 
   place_none : n ≡ index_of (numbered m) ss → none ≡ place_of m ss
-  unfolding place_of provided
-  place_none e = rw (← e, count, le-ltb n n (omega arith))
+  unfolding place_of
+  place_none e = first_none (numbered m) ss (count ∙ e)
 
   -- what the code gives: none is left,
   pub none_left : (low left : ℕ) → Among p n m low left → n ≤ low → none ≡ place_of m ss

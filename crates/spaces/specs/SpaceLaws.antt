@@ -20,9 +20,9 @@ use Rattle.std.specs.Prelude as code
 use Rattle.std.specs.Prelude.{None, Some}
 use Rattle.std.specs.Option as code_option
 use Rattle.basis.specs.Choice.{is_some, provided, given}
-use Rattle.sections.specs.Rows.{has, lacks, index_of, HasRows}
+use Rattle.sections.specs.Rows.{has, lacks, index_of, first_place, HasRows}
 use Rattle.sections.specs.RowLaws.{number_in_lem}
-use Rattle.sections.specs.Loops.{index_any}
+use Rattle.sections.specs.Loops.{first_any, first_found}
 use Rattle.sections.specs.Shapes.{entry, item_at, items_length}
 use Rattle.spaces.specs.Spaces.{Small, space_shape, spaces_of, Rising, numbered, place_of, other_than, opening, no_space}
 
@@ -44,25 +44,17 @@ lacks_number m a l = ap not (has_number m a l)
 
 -- it is there exactly if the space is open
 place_is : (m : ℕ) (ss : List Space) → is_some (place_of m ss) ≡ is_open ss m
-unfolding is_some place_of provided is_open
-place_is m ss = go (ltb (index_of (numbered m) ss) (length ss)) (index_any (numbered m) ss)
-  where
-    go : (t : Bool) → t ≡ is_open ss m → is_some (provided t (index_of (numbered m) ss)) ≡ is_open ss m
-    go true e = e
-    go false e = e
+unfolding place_of is_open
+place_is m ss = first_any (numbered m) ss
 
 pub open_is : (m : ℕ) (ss : List Space) (o : code.Option ℕ) (r : Bool) → given o ≡ place_of m ss → r ≡ code_option.is_some o → r ≡ is_open ss m
-unfolding is_some
-open_is m ss o r e f = f ∙ (go o ∙ (ap is_some e ∙ place_is m ss))
-  where
-    go : (o : code.Option ℕ) → code_option.is_some o ≡ is_some (given o)
-    go None = refl
-    go (Some i) = refl
+unfolding place_of is_open
+open_is m ss o r e f = first_found (numbered m) ss o r e f
 
 -- and where it is
 module _ (m : ℕ) (ss : List Space) where
   place_some : (i : ℕ) → some i ≡ place_of m ss → (i ≡ index_of (numbered m) ss) × (i < length ss)
-  unfolding place_of provided
+  unfolding place_of first_place provided
   place_some i e = go (ltb (index_of (numbered m) ss) (length ss)) refl e
     where
       go : (t : Bool) → ltb (index_of (numbered m) ss) (length ss) ≡ t → some i ≡ provided t (index_of (numbered m) ss) → (i ≡ index_of (numbered m) ss) × (i < length ss)
@@ -70,7 +62,7 @@ module _ (m : ℕ) (ss : List Space) where
       go false q f = absurd (none-ne-some i (sym f))
 
   place_none : none ≡ place_of m ss → length ss ≤ index_of (numbered m) ss
-  unfolding place_of provided
+  unfolding place_of first_place provided
   place_none e = go (ltb (index_of (numbered m) ss) (length ss)) refl e
     where
       go : (t : Bool) → ltb (index_of (numbered m) ss) (length ss) ≡ t → none ≡ provided t (index_of (numbered m) ss) → length ss ≤ index_of (numbered m) ss

@@ -170,20 +170,10 @@ pub fn are_legal(spaces: &[u8], n: usize, next: u32) -> bool
     requires { (length spaces.now ≡ spaces_size) × (n ≤ most_spaces) }
     ensures { result ≡ spaces_legal spaces.now n next }
 {
-    if n == 0 {
-        return false;
-    }
-    if next == 0 {
-        return false;
-    }
-    if !scans::unused_zero(spaces, ROW, n) {
-        return false;
-    }
-    if !spans::zero_run(spaces, 0, ROW) {
-        return false;
-    }
-    if !accesses_ok(spaces, n) {
-        return false;
-    }
-    scans::rises(spaces, ROW, n, 0, words::SPACE_WIDTH, 0, next as usize - 1)
+    n > 0
+        && next > 0
+        && scans::unused_zero(spaces, ROW, n)
+        && spans::zero_run(spaces, 0, ROW)
+        && accesses_ok(spaces, n)
+        && scans::rises(spaces, ROW, n, 0, words::SPACE_WIDTH, 0, next as usize - 1)
 }

@@ -56,7 +56,8 @@ fn waits_ok(
         && waiting::all_may_wait(waiting, k, spaces, n, tuples, m, up)
 }
 
-// The sections, of bytes whose header is that of a state.
+// The sections, of bytes whose header is that of a state. Each is read once those before it are legal: one test after the other, since
+// what each reads stands between.
 fn contents_ok(b: &[u8]) -> bool
     requires { (length b.now ≡ state_size) × T (counts_fit (decode b.now)) }
     ensures { result ≡ contents_legal b.now }

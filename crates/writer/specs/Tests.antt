@@ -1,13 +1,12 @@
 -- The tests of an addition's parts, one after the other. Assumes nothing.
-use Rattle.std.specs.Prelude.{◌≡◌, refl, Bool, true, false, ◌&&◌, ◌||◌, List, [], ◌∷◌, ℕ, zero, suc, ◌+◌, ◌≤◌, ◌<◌, length, take, get_or, eqb, ltb}
-use Rattle.std.proofs.Common.{◌∙◌, add-one, arith, take-suc, ltb→lt}
+use Rattle.std.specs.Prelude.{◌≡◌, Bool, true, false, ◌&&◌, ◌||◌, List, [], ◌∷◌, ℕ, zero, suc, ◌≤◌, ◌<◌, length, take, get_or, eqb, ltb}
+use Rattle.std.proofs.Common.{◌∙◌, arith, ltb→lt}
 use Rattle.std.proofs.Math.Option.{some}
 use Rattle.std.proofs.Math.Dec.{T, leb, le→leb, lt→ltb}
 use borrow.Author.Tests.{eq-eqb, ne_eqb, lt-ltb, le-ltb, le-leb, lt-leb}
 use Rattle.basis.specs.Logic.{and_l, and_r, both, or_r, is_true}
 use Rattle.basis.specs.Choice.{provided}
 use Rattle.basis.specs.Lists.{all}
-use Rattle.words.specs.ZeroLaws.{all_append, and-false}
 use Rattle.basis.specs.Sizes.{most_fields}
 use Rattle.statements.specs.declared.Field.{Field}
 use Rattle.statements.specs.declared.Operation.{Operation}

@@ -24,7 +24,7 @@ returns-in_err-operation c =
     rw (p.1, p.2) (told_last add_operation w c.in_err-operation.field-0.0 r _ _ (search rules) k)
 
 pub returns-in_err-branch : goal.returns-in_err-branch
-returns-in_err-branch c = 
+returns-in_err-branch c =
     let a = c.args in
     let e = c.in_err-branch.ensures in
     let p = err_from_is_err_and c.from_residual-in_err-branch.result c.from_residual-in_err-branch.ensures.1 in

@@ -47,7 +47,7 @@ pub unwrap-begun-requires : goal.unwrap-begun-requires
 unwrap-begun-requires c =
     let b = c.args.body.now in
     fills_ok (begin_turn b (true_is (legal_body b) c.requires.0) c.standing_operation-end.result c.standing_operation-end.ensures c.args.out.now (λ k. (c.type_inv.body k).fits) c.requires.1
-        _ _ refl c.word2-process.ensures c.begin_at.result c.begin_at.new.buffer c.begin_at.ensures)
+    _ _ refl c.word2-process.ensures c.begin_at.result c.begin_at.new.buffer c.begin_at.ensures)
 
 pub copy_operations-c-requires : goal.copy_operations-c-requires
 copy_operations-c-requires c =

@@ -24,12 +24,12 @@ pub unwrap-filled-requires : goal.unwrap-filled-requires
 unwrap-filled-requires c =
     let h = c.requires in
     fills_ok (operation_turn c.args.body.now h.0 c.loop.next (c.args.count - (c.loop.counter + 1)) h.1 c.loop.filled c.loop.out
-        (one_more _ _ _ _ _ _ _ _ c.loop-test.true (c.loop.invariant h.0 h.1 h.2)) c.standing_operation-end.result c.standing_operation-end.ensures c.operation_at.result c.operation_at.new.buffer c.operation_at.ensures)
+    (one_more _ _ _ _ _ _ _ _ c.loop-test.true (c.loop.invariant h.0 h.1 h.2)) c.standing_operation-end.result c.standing_operation-end.ensures c.operation_at.result c.operation_at.new.buffer c.operation_at.ensures)
 
 pub loop-preserved : goal.loop-preserved
 loop-preserved c buffer later u =
     fills_at (operation_turn c.args.body.now buffer c.loop.next (c.args.count - (c.loop.counter + 1)) later c.loop.filled c.loop.out
-        (one_more _ _ _ _ _ _ _ _ c.loop-test.true (c.loop.invariant buffer later u)) c.standing_operation-end.result c.standing_operation-end.ensures c.operation_at.result c.operation_at.new.buffer c.operation_at.ensures)
+    (one_more _ _ _ _ _ _ _ _ c.loop-test.true (c.loop.invariant buffer later u)) c.standing_operation-end.result c.standing_operation-end.ensures c.operation_at.result c.operation_at.new.buffer c.operation_at.ensures)
     c.unwrap-filled.result c.unwrap-filled.ensures
 
 pub returns : goal.returns

@@ -1,5 +1,5 @@
 -- `parts::put_fields` meets its contract. Assumes nothing.
-use Rattle.std.proofs.Common.{◌≡◌, arith, take_all}
+use Rattle.std.proofs.Common.{arith, take_all}
 use Rattle.statements.specs.declared.Field.{Field}
 use Rattle.parts.specs.Fields.{putting_start, putting_turn}
 use Rattle.writer.specs.Tests.{forms_at}

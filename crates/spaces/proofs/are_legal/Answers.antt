@@ -1,42 +1,47 @@
 -- `spaces::are_legal` meets its contract. Assumes nothing.
 use mathlib.Core.Path.{sym, ◌∙◌}
 use native.Mathlib.Omega.{arith}
+use Rattle.std.proofs.Common.{true≢false}
+use borrow.Author.Tests.{le-ltb}
 use Rattle.basis.specs.Logic.{true_is}
 use Rattle.sections.specs.RowLaws.{bytes_of_lem}
 use Rattle.scans.specs.Tests.{clash}
 use Rattle.spaces.specs.LegalLaws.{not_legal, then_rising}
 use Rattle.spaces.proofs.are_legal.Goals as goal
+use Rattle.spaces.proofs.are_legal.Goals.{then-n-gt0, else-n-gt0, then-next-gt0, else-next-gt0, then-unused_zero, else-unused_zero, then-zero_run, else-zero_run}
 
-pub returns-then-n-eq0 : goal.returns-then-n-eq0
-returns-then-n-eq0 c =
+pub returns-then-accesses_ok : goal.returns-then-accesses_ok
+returns-then-accesses_ok c =
     let bytes = bytes_of_lem c.args.spaces.now (λ k. (c.type_inv.spaces k).fits) in
-    not_legal _ _ _ bytes c.requires.0 c.requires.1 (λ t. omega (arith, t.some, c.if-n-eq0.true))
+    elim c.if-zero_run.branch [
+      | else-zero_run z ↦ cc
+      | then-zero_run z ↦ elim c.if-unused_zero.branch [
+        | else-unused_zero u ↦ cc
+        | then-unused_zero u ↦ elim c.if-next-gt0.branch [
+          | else-next-gt0 x ↦ elim c.if-n-gt0.branch [
+            | then-n-gt0 w ↦ absurd (true≢false (sym u.if-unused_zero.true ∙ (x.value-is ∙ (w.t-8-is ∙ le-ltb 0 c.args.next (omega arith)))))
+            | else-n-gt0 w ↦ absurd (true≢false (sym u.if-unused_zero.true ∙ (x.value-is ∙ (w.t-8-is ∙ le-ltb 0 c.args.n (omega arith)))))
+          ]
+          | then-next-gt0 x ↦ c.rises.ensures
+              ∙ then_rising _ _ _ bytes c.requires.0 c.requires.1 (omega arith) (omega arith)
+              (true_is _ (sym x.unused_zero.ensures ∙ (sym x.value-is ∙ u.if-unused_zero.true)))
+              (true_is _ (sym u.zero_run.ensures ∙ (sym u.value-is ∙ z.if-zero_run.true)))
+              (true_is _ (sym z.accesses_ok.ensures ∙ (sym z.value-is ∙ c.if-accesses_ok.true)))
+        ]
+      ]
+    ]
 
-pub returns-then-next-eq0 : goal.returns-then-next-eq0
-returns-then-next-eq0 c =
+pub returns-else-accesses_ok : goal.returns-else-accesses_ok
+returns-else-accesses_ok c =
     let bytes = bytes_of_lem c.args.spaces.now (λ k. (c.type_inv.spaces k).fits) in
-    not_legal _ _ _ bytes c.requires.0 c.requires.1 (λ t. omega (arith, t.above, c.if-next-eq0.true))
-
-pub returns-then-not-unused_zero : goal.returns-then-not-unused_zero
-returns-then-not-unused_zero c =
-    let bytes = bytes_of_lem c.args.spaces.now (λ k. (c.type_inv.spaces k).fits) in
-    not_legal _ _ _ bytes c.requires.0 c.requires.1 (λ t. clash _ _ t.unused c.unused_zero.ensures c.if-not-unused_zero.true)
-
-pub returns-then-not-zero_run : goal.returns-then-not-zero_run
-returns-then-not-zero_run c =
-    let bytes = bytes_of_lem c.args.spaces.now (λ k. (c.type_inv.spaces k).fits) in
-    not_legal _ _ _ bytes c.requires.0 c.requires.1 (λ t. clash _ _ t.first c.zero_run.ensures c.if-not-zero_run.true)
-
-pub returns-then-not-accesses_ok : goal.returns-then-not-accesses_ok
-returns-then-not-accesses_ok c =
-    let bytes = bytes_of_lem c.args.spaces.now (λ k. (c.type_inv.spaces k).fits) in
-    not_legal _ _ _ bytes c.requires.0 c.requires.1 (λ t. clash _ _ t.access c.accesses_ok.ensures c.if-not-accesses_ok.true)
-
-pub returns : goal.returns
-returns c =
-    let bytes = bytes_of_lem c.args.spaces.now (λ k. (c.type_inv.spaces k).fits) in
-    c.rises.ensures
-    ∙ then_rising _ _ _ bytes c.requires.0 c.requires.1 (omega (arith, c.if-n-eq0.false)) (omega (arith, c.if-next-eq0.false))
-    (true_is _ (sym c.unused_zero.ensures ∙ c.if-not-unused_zero.false))
-    (true_is _ (sym c.zero_run.ensures ∙ c.if-not-zero_run.false))
-    (true_is _ (sym c.accesses_ok.ensures ∙ c.if-not-accesses_ok.false))
+    c.if-accesses_ok.false ∙ not_legal c.args.spaces.now c.args.n c.args.next bytes c.requires.0 c.requires.1 (λ t.
+    elim c.if-zero_run.branch [
+      | then-zero_run z ↦ clash _ _ t.access z.accesses_ok.ensures (sym z.value-is ∙ c.if-accesses_ok.false)
+      | else-zero_run z ↦ elim c.if-unused_zero.branch [
+        | then-unused_zero u ↦ clash _ _ t.first u.zero_run.ensures (sym u.value-is ∙ z.if-zero_run.false)
+        | else-unused_zero u ↦ elim c.if-next-gt0.branch [
+          | then-next-gt0 x ↦ clash _ _ t.unused x.unused_zero.ensures (sym x.value-is ∙ u.if-unused_zero.false)
+          | else-next-gt0 x ↦ omega (arith, t.some, t.above)
+        ]
+      ]
+    ])

@@ -1,5 +1,5 @@
 -- `writer::is_handed` meets its contract. Assumes nothing.
-use Rattle.std.proofs.Common.{◌∙◌, ◌<◌, inl, inr, arith, eq-eqb, le-ltb}
+use Rattle.std.proofs.Common.{◌∙◌, ◌<◌, arith, eq-eqb, le-ltb}
 use Rattle.std.proofs.lemmas.Bool.{lt-leb}
 use Rattle.basis.specs.Sizes.{most_fields}
 use Rattle.statements.specs.Flat.{codes}
@@ -23,9 +23,9 @@ returns-else-op-le-MOST_FIELDS c =
     let o = c.args.op in
     let n = c.if-op-eq-TRUE.false in
     elim c.if-op-lt-CODES.branch [
-      then-op-lt-CODES w ↦
-        let l : o.code < codes = w.if-op-lt-CODES.true in
-        let m : most_fields < o.count = omega (arith, c.if-op-le-MOST_FIELDS.either) in
-        w.t-6-is ∙ lt-leb o.count most_fields m ∙ handed_many o n l m
+      | then-op-lt-CODES w ↦
+          let l : o.code < codes = w.if-op-lt-CODES.true in
+          let m : most_fields < o.count = omega (arith, c.if-op-le-MOST_FIELDS.either) in
+          w.t-6-is ∙ lt-leb o.count most_fields m ∙ handed_many o n l m
       | else-op-lt-CODES w ↦ w.t-6-is ∙ le-ltb o.code codes w.if-op-lt-CODES.false ∙ handed_code o n w.if-op-lt-CODES.false
     ]
