@@ -1,7 +1,7 @@
 -- The laws of a reply's parts: what the stores leave, and that the parts are the reply. Assumes nothing.
 use Rattle.std.specs.Prelude as code
 use Rattle.std.specs.Prelude.{None, Some}
-use Rattle.std.specs.Prelude.{◌≡◌, map, refl, ℕ, zero, suc, ◌+◌, ◌*◌, ◌≤◌, ◌<◌, ◌%◌, Bool, true, false, cond, length, take, drop, get_or, set, eqb}
+use Rattle.std.specs.Prelude.{◌≡◌, map, refl, ℕ, zero, suc, ◌+◌, ◌*◌, ◌≤◌, ◌<◌, ◌%◌, true, false, length, take, drop, get_or, set, eqb}
 use Rattle.std.proofs.Common.{sym, ap, ◌∙◌, arith, add-one, length-append, length-drop, length-set, take_all, take-suc, length-take-le}
 use Rattle.std.proofs.Math.Option.{Option, none, some}
 use Rattle.std.proofs.Math.ListN.{get_or-map}
@@ -9,7 +9,7 @@ use Rattle.std.proofs.lemmas.List.{length-map}
 use Rattle.values.specs.declared.Scalar.{Scalar}
 use Rattle.values.specs.Meaning.{scalar_is, scalar_given}
 use mathlib.Core.List.{List, [], ◌∷◌, ◌++◌, flat_map, append_assoc, append-nil}
-use Rattle.basis.specs.Choice.{maybe, provided}
+use Rattle.basis.specs.Choice.{maybe}
 use Rattle.basis.specs.Numbers.{big_endian}
 use Rattle.basis.specs.NumberLaws.{big_endian_length}
 use Rattle.basis.specs.PadLaws.{Wide, rows_length}

@@ -1,6 +1,6 @@
 -- A statement's attempt on the tuples of a stored run. Assumes nothing.
 use Rattle.std.specs.Prelude.{◌≡◌, refl, List, length, T}
-use Rattle.std.proofs.Common.{sym, ◌∙◌, arith, take_all, ne_eqb}
+use Rattle.std.proofs.Common.{◌∙◌, arith, take_all, ne_eqb}
 use Rattle.std.proofs.Math.Path.{ap}
 use Prim.Native.Nat.{ℕ, zero, suc}
 use Rattle.std.proofs.Math.Option.{Option, none, some, some-injective, none-ne-some}
