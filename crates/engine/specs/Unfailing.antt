@@ -5,7 +5,7 @@ use native.Mathlib.Omega.{arith}
 use Rattle.std.proofs.Math.Option.{none, some, some-injective, none-ne-some}
 use Rattle.std.proofs.Math.ListN.{length, get_or-map}
 use Rattle.std.proofs.lemmas.List.{length-map}
-use Rattle.basis.specs.Logic.{and_l, and_r, both}
+use Rattle.basis.specs.Logic.{and_l, and_r}
 use Rattle.basis.specs.Lists.{all, keep}
 use Rattle.basis.specs.ListLaws.{keep_length}
 use Rattle.basis.specs.Sizes.{most_tuples, space_width}

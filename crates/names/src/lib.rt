@@ -16,6 +16,7 @@ ghost use Rattle.names.specs.Named.{PastOperations, PastBranch};
 use statements::{Bare, TRUE, TWO_SPACES, standing_bare};
 
 // What a space is tested for: that it is not open, not open to a process, or that of a number.
+// An enum and not a closure: the contracts name the test by its value, and each rule stands in one arm.
 #[derive(Clone, Copy)]
 pub enum SpaceTest {
     Closed,

@@ -2,20 +2,17 @@
 use Rattle.std.specs.Prelude.{◌≡◌, ℕ, ◌*◌, ◌≤◌, ◌<◌, take}
 use Rattle.std.proofs.Math.Path.{refl, sym, ap, subst}
 use Rattle.std.proofs.Common.{◌∙◌, arith, T_not}
-use Rattle.std.proofs.Math.Bool.{true, true≢false}
 use Rattle.std.proofs.Math.Option
 use Rattle.std.proofs.Math.Option.{Option, none, some}
 use mathlib.Core.List.{List, [], ◌∷◌, flat_map}
 use Rattle.std.proofs.Math.ListN.{length, get_or}
 use Rattle.std.proofs.lemmas.List.{get_or_at}
 use Rattle.basis.specs.Choice.{maybe}
-use Rattle.basis.specs.Logic.{is_true}
 use Rattle.basis.specs.Lists.{Found, first, remove_at}
 use Rattle.basis.specs.ListLaws.{first_some, first_below}
 use Rattle.basis.specs.Sizes.{reply_header_size, most_reply}
 use Rattle.model.specs.Matching.{Tuple}
-use Rattle.model.specs.Statement.{Statement}
-use Rattle.model.specs.Execution.{ready, chosen, Executed, attempt, tuples_after}
+use Rattle.model.specs.Execution.{chosen, Executed, attempt, tuples_after}
 use Rattle.model.specs.Run.{Waiting, Run, with_tuples, with_waiting, laid, ran_reply, Turn, woken_by, wake}
 use Rattle.model.proofs.Debts.{laid_waiting}
 use Rattle.model.proofs.Settle.{attempt_none, wake_some}
@@ -27,7 +24,7 @@ use Rattle.header.specs.StoredLaws.{stored_says}
 use Rattle.replies.specs.TurnLaws.{one_reply}
 use Rattle.header.specs.Rows.{queue_lent}
 use Rattle.queue.specs.Queue.{waiting_of}
-use Rattle.queue.specs.PlaceLaws.{no_waiting, waiting_nth, body_of}
+use Rattle.queue.specs.PlaceLaws.{no_waiting, waiting_nth}
 use Rattle.walk.specs.declared.Choice.{Choice}
 use Rattle.oldest.specs.Searching.{ready_in, RunsAt}
 use Rattle.running.specs.Executed.{MayRun, Picked, still, executed}

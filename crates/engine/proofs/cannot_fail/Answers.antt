@@ -1,7 +1,7 @@
 -- `engine::cannot_fail` meets its contract. Assumes nothing.
 use mathlib.Core.Path.{◌≡◌, sym}
 use Rattle.std.proofs.Math.Bool.{true≢false}
-use Prim.Native.Nat.{ℕ, suc, ◌+◌, ◌-◌}
+use Prim.Native.Nat.{suc, ◌+◌, ◌-◌}
 use native.Mathlib.Omega.{arith}
 use Rattle.walk.specs.Walk.{next_there}
 use Rattle.engine.specs.Unfailing.{passing_start, passing_end, to_come_lem, passing_within, passing_turn}

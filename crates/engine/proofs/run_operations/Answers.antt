@@ -2,10 +2,7 @@
 use mathlib.Core.Path.{◌≡◌, refl, ◌∙◌}
 use Prim.Native.Nat.{suc, ◌+◌, ◌-◌}
 use native.Mathlib.Omega.{arith}
-use Rattle.model.specs.Execution.{perform_all}
-use Rattle.tuples.specs.Section.{tuples_of}
-use Rattle.bindings.specs.Variables.{bindings_of}
-use Rattle.walk.specs.Walk.{operations_at, next_there}
+use Rattle.walk.specs.Walk.{next_there}
 use Rattle.engine.specs.Ahead.{running_start, running_stands, running_can, running_fails, running_turn, running_end}
 use Rattle.engine.proofs.run_operations.Goals as goal
 use Rattle.engine.proofs.run_operations.Goals.{In-loop}

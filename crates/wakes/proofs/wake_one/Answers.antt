@@ -10,7 +10,6 @@ use Rattle.queue.specs.Queue.{waiting_of}
 use Rattle.header.specs.Rows.{queue_lent, tuples_lent}
 use Rattle.lent.specs.Sections.{queue_read, is_queued}
 use Rattle.state.specs.Lent.{tuples_read, is_section}
-use Rattle.walk.specs.declared.Choice.{Choice}
 use Rattle.oldest.specs.Searching.{RunsAt, Answers}
 use Rattle.wakes.specs.Turns.{wakes_none, wakes_at, wakes_picked, wakes_some}
 use Rattle.wakes.proofs.wake_one.Goals as goal
