@@ -1,9 +1,8 @@
 -- `carried::choice` meets its contract. Assumes nothing.
 use Rattle.std.proofs.Common.{◌≡◌, sym, ap, ◌∙◌}
 use Rattle.std.proofs.lemmas.Result.{err_from_is_err_and}
-use Rattle.statements.specs.declared.Operation.{Operation}
-use Rattle.writer.specs.Writer.{Written, added, written_is, begin_on, add_operation, add_branch}
-use Rattle.chains.specs.Chains.{onward, operation_more, branch_more}
+use Rattle.writer.specs.Writer.{Written, begin_on, add_operation, add_branch}
+use Rattle.chains.specs.Chains.{operation_more, branch_more}
 use Rattle.carried.specs.Held.{shown}
 use Rattle.carried.specs.HeldLaws.{told_last, told_before}
 use Rattle.std.specs.Prelude.{Err}

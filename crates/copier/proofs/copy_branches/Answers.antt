@@ -1,5 +1,5 @@
 -- `copier::copy_branches` meets its contract. Assumes nothing.
-use Rattle.std.proofs.Common.{◌≡◌, sym, ◌∙◌, ℕ, suc, ◌+◌, ◌-◌, ◌<◌, List, subst, arith}
+use Rattle.std.proofs.Common.{◌≡◌, sym, ℕ, suc, ◌+◌, ◌-◌, ◌<◌, List, subst, arith}
 use borrow.Author.Rules.{rules}
 use Rattle.basis.specs.Sizes.{count_width}
 use Rattle.rewriter.specs.Copying.{Underway, fills_at, fills_ok, guard_there, guard_within, branch_turn, all_in}

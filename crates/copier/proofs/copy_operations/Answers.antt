@@ -1,7 +1,7 @@
 -- `copier::copy_operations` meets its contract. Assumes nothing.
 use Rattle.std.proofs.Common.{◌≡◌, ℕ, suc, ◌+◌, ◌-◌, ◌<◌, List, subst, arith}
 use Rattle.walk.specs.Walk.{next_there}
-use Rattle.rewriter.specs.Copying.{Underway, Fills, fills_at, fills_ok, operation_turn}
+use Rattle.rewriter.specs.Copying.{Underway, fills_at, fills_ok, operation_turn}
 use Rattle.copier.proofs.copy_operations.Goals as goal
 
 -- an operation is left: it and the others
