@@ -1,7 +1,5 @@
 -- `copier::copy_branches` meets its contract. Assumes nothing.
-use mathlib.Core.Path.{◌≡◌}
 use Prim.Native.Nat.{◌-◌}
-use lib.ListN.{length}
 use Rattle.rewriter.specs.Copying.{Underway}
 use Rattle.copier.proofs.copy_branches.Given as goal
 
