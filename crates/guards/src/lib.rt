@@ -24,7 +24,11 @@ pub fn search(tuples: &[u8], n: usize, body: &[u8]) -> Option<Choice>
         let (op, end) = standing_operation(body, at);
         let branch = i + 1;
         if op.code == TRUE {
-            choice = Some(Choice { branch, at, tuple: 0 });
+            choice = Some(Choice {
+                branch,
+                at,
+                tuple: 0,
+            });
             break 'branches;
         }
         let template = bindings::template_of(op, bindings::no_vars());

@@ -23,7 +23,7 @@ pub contents_ok-requires : goal.contents_ok-requires
 contents_ok-requires c =
     elim c.if-b-eq-STATE.branch [
       | then-b-eq-STATE w ↦
-        (w.if-b-eq-STATE.true, (legal_header c.args.b.now (omega (arith, w.if-b-eq-STATE.true)) (true_is _ (sym w.is_legal.ensures ∙ (sym w.value-is ∙ c.if-is_legal.true)))).limits)
+          (w.if-b-eq-STATE.true, (legal_header c.args.b.now (omega (arith, w.if-b-eq-STATE.true)) (true_is _ (sym w.is_legal.ensures ∙ (sym w.value-is ∙ c.if-is_legal.true)))).limits)
       | else-b-eq-STATE w ↦ absurd (true≢false (sym c.if-is_legal.true ∙ (w.value-is ∙ ne_eqb _ _ w.if-b-eq-STATE.false)))
     ]
 
