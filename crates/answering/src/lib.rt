@@ -25,7 +25,7 @@ fn answer_close(
     ensures { Answers (some (close_space host process space)) (decode state.old) out.old state.new out.new result }
 {
     if let Err(why) = refusals::refuse_close(state, host, process, space) {
-        return Err(handling::refuse(state, host, process, why, out));
+        return Err(handling::refuse(state, host, process, why.number(), out));
     }
     Ok(effects::take_close(state, out, host, process, space))
 }

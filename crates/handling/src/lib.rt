@@ -9,7 +9,6 @@ ghost use Rattle.model.specs.Step.{recover, crash, monitor, open_space, refused,
 ghost use Rattle.layout.specs.States.{decode};
 ghost use Rattle.layout.specs.Stored.{Stored, IsStored, Turned};
 ghost use Rattle.calls.specs.Calls.{number_of as position_of};
-ghost use Rattle.order.specs.Told.{number_of};
 ghost use Rattle.handling.specs.Answers.{Answers};
 
 use order::Refusal;
@@ -32,12 +31,12 @@ pub fn advance(state: &mut [u8], input: &[u8])
 // ---- a refusal
 
 // "one reply carries the number, nothing else changes".
-pub fn refuse(state: &[u8], host: u8, process: u16, outcome: Refusal, out: &mut [u8]) -> Refused
+pub fn refuse(state: &[u8], host: u8, process: u16, outcome: u8, out: &mut [u8]) -> Refused
     requires { IsStored state.now × (reply_header_size ≤ length out.old) }
-    ensures { Turned (refused (decode state.now) host process (number_of outcome)) out.old state.now out.new result.size }
+    ensures { Turned (refused (decode state.now) host process outcome) out.old state.now out.new result.size }
 {
     Refused {
-        size: replies::plain_reply(out, header::last(state), host, process, outcome.number()),
+        size: replies::plain_reply(out, header::last(state), host, process, outcome),
     }
 }
 
@@ -46,7 +45,7 @@ pub fn malformed(state: &[u8], out: &mut [u8]) -> Refused
     requires { IsStored state.now × (reply_header_size ≤ length out.old) }
     ensures { Turned (malforms (decode state.now)) out.old state.now out.new result.size }
 {
-    refuse(state, 255, 65535, Refusal::Malformed, out)
+    refuse(state, 255, 65535, Refusal::Malformed.number(), out)
 }
 
 // ---- by the record: the checks, then the effect with the size of its reply
@@ -58,7 +57,7 @@ pub fn answer_recover(state: &mut [u8], host: u8, out: &mut [u8]) -> Result<usiz
     ensures { Answers (some (recover host)) (decode state.old) out.old state.new out.new result }
 {
     if let Err(why) = standing::refuse_recover(state, host) {
-        return Err(refuse(state, host, 0, why, out));
+        return Err(refuse(state, host, 0, why.number(), out));
     }
     Ok(effects::take_recover(state, out, host))
 }
@@ -69,7 +68,7 @@ pub fn answer_crash(state: &mut [u8], host: u8, out: &mut [u8]) -> Result<usize,
     ensures { Answers (some (crash host)) (decode state.old) out.old state.new out.new result }
 {
     if let Err(why) = standing::refuse_crash(state, host) {
-        return Err(refuse(state, host, 0, why, out));
+        return Err(refuse(state, host, 0, why.number(), out));
     }
     Ok(effects::take_crash(state, out, host))
 }
@@ -85,7 +84,7 @@ pub fn answer_monitor(
     ensures { Answers (some (monitor host process)) (decode state.old) out.old state.new out.new result }
 {
     if let Err(why) = standing::refuse_monitor(state, host, process) {
-        return Err(refuse(state, host, process, why, out));
+        return Err(refuse(state, host, process, why.number(), out));
     }
     Ok(effects::take_monitor(state, out, host, process))
 }
@@ -102,7 +101,7 @@ pub fn answer_open(
     ensures { Answers (some (open_space host process owned)) (decode state.old) out.old state.new out.new result }
 {
     if let Err(why) = standing::refuse_open(state, host, process) {
-        return Err(refuse(state, host, process, why, out));
+        return Err(refuse(state, host, process, why.number(), out));
     }
     Ok(effects::take_open(state, out, host, process, owned))
 }

@@ -27,7 +27,7 @@ fn refuse_body(state: &[u8], body: &[u8], outcome: Refusal, out: &mut [u8]) -> u
         state,
         body[words::HOST_AT],
         words::word2(body, words::PROCESS_AT),
-        outcome,
+        outcome.number(),
         out,
     )
     .size

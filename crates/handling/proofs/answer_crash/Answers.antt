@@ -10,7 +10,7 @@ unfolding asking_host asking_process
 returns-in-Err c =
     let a = c.args in
     let d = c.refuse in
-    was_refused (decode a.state.now) (crash a.host) c.in-Err.why a.out.now a.state.now d.new.out d.result c.in-Err.ensures d.ensures
+    was_refused (decode a.state.now) (crash a.host) c.in-Err.why a.out.now a.state.now d.new.out d.result c.in-Err.ensures (rw c.number.ensures at d.ensures)
 
 pub take_crash-requires : goal.take_crash-requires
 take_crash-requires c =

@@ -10,7 +10,7 @@ unfolding asking_host asking_process
 returns-in-Err c =
     let a = c.args in
     let d = c.refuse in
-    was_refused (decode a.state.now) (monitor a.host a.process) c.in-Err.why a.out.now a.state.now d.new.out d.result c.in-Err.ensures d.ensures
+    was_refused (decode a.state.now) (monitor a.host a.process) c.in-Err.why a.out.now a.state.now d.new.out d.result c.in-Err.ensures (rw c.number.ensures at d.ensures)
 
 pub take_monitor-requires : goal.take_monitor-requires
 take_monitor-requires c =

@@ -10,7 +10,7 @@ unfolding asking_host asking_process
 returns-in-Err c =
     let a = c.args in
     let d = c.refuse in
-    was_refused (decode a.state.now) (open_space a.host a.process a.owned) c.in-Err.why a.out.now a.state.now d.new.out d.result (c.in-Err.ensures a.owned) d.ensures
+    was_refused (decode a.state.now) (open_space a.host a.process a.owned) c.in-Err.why a.out.now a.state.now d.new.out d.result (c.in-Err.ensures a.owned) (rw c.number.ensures at d.ensures)
 
 pub take_open-requires : goal.take_open-requires
 take_open-requires c =

@@ -4,4 +4,4 @@ use Rattle.handling.proofs.malformed.Goals as goal
 
 pub returns : goal.returns
 unfolding malformed
-returns c = c.refuse.ensures
+returns c = rw c.number.ensures at c.refuse.ensures

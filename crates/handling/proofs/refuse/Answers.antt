@@ -5,4 +5,4 @@ use Rattle.handling.proofs.refuse.Goals as goal
 pub returns : goal.returns
 returns c =
     let a = c.args in
-    rw (← c.number.ensures) (refused_turned a.state.now a.out.now c.plain_reply.new.out c.last.result a.host a.process c.number.result c.plain_reply.result c.requires.0 c.last.ensures.0 c.plain_reply.ensures)
+    refused_turned a.state.now a.out.now c.plain_reply.new.out c.last.result a.host a.process a.outcome c.plain_reply.result c.requires.0 c.last.ensures.0 c.plain_reply.ensures

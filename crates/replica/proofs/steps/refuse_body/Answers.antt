@@ -17,4 +17,4 @@ returns c =
     let a = c.args in
     let w = c.word2 in
     let d = c.refuse in
-    refused_body (decode a.state.now) a.body.now w.result (number_of a.outcome) a.out.now a.state.now d.new.out d.result.size c.requires.1 w.ensures d.ensures
+    refused_body (decode a.state.now) a.body.now w.result (number_of a.outcome) a.out.now a.state.now d.new.out d.result.size c.requires.1 w.ensures (rw c.number.ensures at d.ensures)
