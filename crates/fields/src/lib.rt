@@ -44,6 +44,7 @@ fn binder_ok(kind: u8, variable: u8, now: &Kinds) -> bool
 }
 
 // A range: of whole numbers or metres, both ends legal, the lowest at most the highest.
+#[tactic(auto, using(std::proofs::lemmas::Grind::common_steps), unfolding(model::specs::Legal::legal_range))]
 fn range_ok(kind: u8, lowest: u32, highest: u32) -> bool
     ensures { result ≡ legal_range kind (range lowest highest) }
 {

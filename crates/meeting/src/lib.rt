@@ -26,6 +26,7 @@ const MALFORMED: u64 = 6;
 const REFERS: u64 = 19;
 
 // One value meets field i of both: of one kind and, where two ranges are given, in both.
+#[tactic(auto, using(std::proofs::lemmas::Grind::common_steps), unfolding(model::specs::Meeting::fields_meet, model::specs::Meeting::overlap, basis::specs::Choice::provided))]
 fn fields_meet(a: Template, b: Template, i: usize) -> bool
     requires { i < most_fields }
     ensures { result ≡ fields_meet (field_at a i) (field_at b i) }
