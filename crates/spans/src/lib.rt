@@ -27,7 +27,10 @@ pub fn move_down(a: &mut [u8], to: usize, from: usize, n: usize)
     requires { (to ≤ from) × (from + n ≤ length a.old) }
     ensures { a.new ≡ over a.old to (drop from a.old) n }
 {
-    a.copy_within(from..from + n, to);
+    // Not `copy_within`, which is written out where the loop becomes one call: with it 32 statements that wake take a third longer.
+    for i in 0..n {
+        a[to + i] = a[from + i];
+    }
 }
 
 // The n bytes of a row, those from index from on, moved to any index, by way of a copy: where n is a constant, the compiler then moves them in few
