@@ -9,7 +9,7 @@ ghost use Rattle.model.specs.Reading.{several, operation, branch};
 ghost use Rattle.model.specs.Legal.{legal_branch, legal_body};
 ghost use Rattle.fields.specs.Kinds.{kinds_are};
 ghost use Rattle.statements.specs.Ends.{end_at};
-ghost use Rattle.bodies.specs.BodyLaws.{head_ok};
+ghost use Rattle.bodies.specs.BodyLaws.{head_ok, ends_at};
 ghost use Rattle.legality.specs.Steps.{body_legal};
 
 use fields::Kinds;
@@ -63,6 +63,16 @@ fn head_legal(host: u8, count: u8) -> bool
     host < HOSTS && (1..=MOST_BRANCHES).contains(&count)
 }
 
+// Whether what ends at a position, if it is legal, takes up n bytes.
+fn takes_up(end: Option<usize>, n: usize) -> bool
+    ensures { result ≡ ends_at (given end) n }
+{
+    match end {
+        Some(at) => at == n,
+        None => false,
+    }
+}
+
 // Whether bytes are the body of an AG record: host, process, branch count and branches, which take up the rest ("Spare bytes
 // .. make the body malformed"), at most 250 bytes.
 pub fn body_ok(b: &[u8]) -> bool
@@ -70,5 +80,5 @@ pub fn body_ok(b: &[u8]) -> bool
 {
     (BRANCHES_AT..=MOST_BODY).contains(&b.len())
         && head_legal(b[HOST_AT], b[BRANCH_COUNT_AT])
-        && branches_ok(b, size(b[BRANCH_COUNT_AT])) == Some(b.len())
+        && takes_up(branches_ok(b, size(b[BRANCH_COUNT_AT])), b.len())
 }

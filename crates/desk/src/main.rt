@@ -1,8 +1,8 @@
 // The program `desk`: it writes statements by the writer, runs them through a replica and prints "a line per reply".
 #![tactic(auto)]
 
+use carried::Stopped;
 use statements::{Field, OUT, Operation, TRUE};
-use writer::{Reason, WriteError};
 
 // The file descriptor of the standard output.
 const STDOUT: i32 = 1;
@@ -67,7 +67,7 @@ fn always() -> Operation {
 // ---- statements
 
 // in(0, name 7, whole into 0) then out(0, name 7, variable 0 plus 1), or else the same with name 8 and minus.
-fn write_choice(body: &mut [u8]) -> Result<usize, WriteError> {
+fn write_choice(body: &mut [u8]) -> Result<usize, Stopped> {
     carried::choice(
         body,
         2,
@@ -80,15 +80,17 @@ fn write_choice(body: &mut [u8]) -> Result<usize, WriteError> {
 }
 
 // true then out(0, name 8, 41).
-fn write_out(body: &mut [u8]) -> Result<usize, WriteError> {
+fn write_out(body: &mut [u8]) -> Result<usize, Stopped> {
     let begun = additions::begin_at(body, 2, 6, always())?;
-    additions::operation_at(body, begun, operation(OUT, 8, field(GIVEN, WHOLE, 0, 41)))
+    let fill = additions::operation_at(body, begun, operation(OUT, 8, field(GIVEN, WHOLE, 0, 41)))?;
+    Ok(fill)
 }
 
 // true then out(0, name 7, variable 0 plus 1): no operation before it binds the variable.
-fn write_unbound(body: &mut [u8]) -> Result<usize, WriteError> {
+fn write_unbound(body: &mut [u8]) -> Result<usize, Stopped> {
     let begun = additions::begin_at(body, 2, 7, always())?;
-    additions::operation_at(body, begun, operation(OUT, 7, field(PLUS, WHOLE, 0, 1)))
+    let fill = additions::operation_at(body, begun, operation(OUT, 7, field(PLUS, WHOLE, 0, 1)))?;
+    Ok(fill)
 }
 
 // ---- records
@@ -117,9 +119,9 @@ fn send(state: &mut [u8], mark: &[u8; words::MARK_WIDTH], position: u32, body: &
 }
 
 // Prints the number of a refused addition.
-fn print_refused(reason: Reason) {
+fn print_refused(answer: u8) {
     let mut text = [0u8; lines::ROOM];
-    let end = lines::refused(u32::from(u8::from(reason)), &mut text);
+    let end = lines::refused(u32::from(answer), &mut text);
     io::write_all(STDOUT, &text[..end]);
 }
 
@@ -134,14 +136,14 @@ fn send_again(state: &mut [u8], position: u32, body: &[u8]) {
 }
 
 // Sends the body that the writer left, unless it refused an addition.
-fn run(state: &mut [u8], position: u32, body: &[u8], written: Result<usize, WriteError>) {
+fn run(state: &mut [u8], position: u32, body: &[u8], written: Result<usize, Stopped>) {
     match written {
         Ok(fill) => {
             if let Some(filled) = body.get(..fill) {
                 send_again(state, position, filled);
             }
         }
-        Err(e) => print_refused(e.reason),
+        Err(stopped) => print_refused(stopped.answer),
     }
 }
 

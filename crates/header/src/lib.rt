@@ -187,7 +187,8 @@ fn rest_ok(state: &[u8]) -> bool
     if tuple_count(state) < words::MOST_TUPLES {
         zero_from(state, 0)
     } else {
-        zero_from(state, monitors(state))
+        let given = monitors(state);
+        zero_from(state, given)
     }
 }
 

@@ -105,7 +105,7 @@ fn agrees(tuples: &[u8], i: usize, template: Template) -> bool
     if tuples::space(tuples, i) != template.space {
         return false;
     }
-    first_mismatch(tuples, i, template).is_ok()
+    matches!(first_mismatch(tuples, i, template), Ok(()))
 }
 
 // Whether a tuple is a match.

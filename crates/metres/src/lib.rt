@@ -56,8 +56,15 @@ fn nearest(n: u64, drop: u32) -> u64
     (n + ((1 << (drop - 1)) - 1) + odd) >> drop
 }
 
+// What is too large has an infinity's bits.
+fn capped(bits: u32) -> u32
+    ensures { result ≡ min bits infinite }
+{
+    bits.min(INFINITE)
+}
+
 // The bits of the value nearest to n * 2 ^ place. n is moved up to 63 digits; all but 24 are dropped, or more where the last one kept would be below
-// the lowest place. What is too large has an infinity's bits.
+// the lowest place.
 fn rounded(n: u64, place: u32) -> u32
     requires n_bound { n < 2 ^ 50 }
     requires place_bound { place < 254 }
@@ -67,7 +74,7 @@ fn rounded(n: u64, place: u32) -> u32
     let up = n.leading_zeros() - 1;
     let drop = SPARE.max(up.saturating_sub(place));
     let bits = (place + drop - up) * LEAD + nearest(n << up, drop) as u32;
-    bits.min(INFINITE)
+    capped(bits)
 }
 
 // x - y where `minus` is set, else x + y.

@@ -49,8 +49,8 @@ fn put_values(out: &mut [u8], values: &[Option<Scalar>; words::VARIABLES]) -> us
     ensures { PutValues (bound_to variables values.now) out.old out.new result }
 {
     let mut count = 0;
-    for (x, value) in values.iter().enumerate() {
-        if let Some(v) = *value {
+    for x in 0..words::VARIABLES {
+        if let Some(v) = values[x] {
             put_value(
                 out,
                 words::REPLY_HEADER + count * words::REPLY_VALUE,

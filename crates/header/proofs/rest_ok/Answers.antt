@@ -18,8 +18,8 @@ returns-then-tuple_count-lt-MOST_TUPLES c =
     c.zero_from.ensures ∙ ap (λ (x : Bool). x && unused c.args.state.now) (debts_room _ _ c.tuple_count.ensures.0 c.if-tuple_count-lt-MOST_TUPLES.true)
 
 pub zero_from-requires-else-tuple_count-lt-MOST_TUPLES : goal.zero_from-requires-else-tuple_count-lt-MOST_TUPLES
-zero_from-requires-else-tuple_count-lt-MOST_TUPLES c = (omega (arith, c.requires.0), omega (arith, few_monitors _ _ c.monitors.ensures.0 c.requires.1))
+zero_from-requires-else-tuple_count-lt-MOST_TUPLES c = (omega (arith, c.requires.0), omega (arith, few_monitors _ _ c.monitors-given.ensures.0 c.requires.1))
 
 pub returns-else-tuple_count-lt-MOST_TUPLES : goal.returns-else-tuple_count-lt-MOST_TUPLES
 returns-else-tuple_count-lt-MOST_TUPLES c =
-    c.zero_from-else-tuple_count-lt-MOST_TUPLES.ensures ∙ ap (λ (x : Bool). x && unused c.args.state.now) (debts_full _ _ c.tuple_count.ensures.0 (omega (arith, c.if-tuple_count-lt-MOST_TUPLES.false)) _ c.monitors.ensures.0)
+    c.zero_from-else-tuple_count-lt-MOST_TUPLES.ensures ∙ ap (λ (x : Bool). x && unused c.args.state.now) (debts_full _ _ c.tuple_count.ensures.0 (omega (arith, c.if-tuple_count-lt-MOST_TUPLES.false)) _ c.monitors-given.ensures.0)

@@ -46,4 +46,4 @@ pub returns : goal.returns
 returns c =
     let s = step c.args.n c.args.place c.saturating_sub.result c.max-drop.result c.requires.n_bound c.requires.place_bound c.requires.fact c.saturating_sub.ensures c.max-drop.ensures in
     let r = c.nearest.ensures ∙ ap (λ (x : ℕ). closest x (2 ^ c.max-drop.result)) s.exact in
-    omega (arith, s, r, c.min.ensures)
+    omega (arith, s, r, c.capped.ensures)

@@ -23,7 +23,7 @@ pub loop-x-preserved : goal.loop-x-preserved
 loop-x-preserved c =
     let a = c.args in
     let p = c.loop-x.invariant in
-    elim c.match-value.branch [
+    elim c.match-values-x.branch [
       | in-Some w ↦
           rw (w.out-is, w.count-is)
           (passed_yes a.values.now c.loop-x.x w.in-Some.v a.out.now c.loop-x.out w.put_value.new.out c.loop-x.count w.in-Some.is (omega (arith, p.few)) p w.put_value.ensures)

@@ -36,7 +36,7 @@ returns-in_default c =
 
 pub holds-requires : goal.holds-requires
 holds-requires c =
-    (c.requires.3, c.requires.4, walking_guard _ _ _ _ _ c.loop.at _ _ c.loop.invariant _ (one_more (goal.at.holds-requires c).In-loop) c.standing_operation-end.result c.standing_operation-end.ensures, c.standing_operation-end.ensures.parts.count)
+    (c.requires.3, omega (arith, c.requires.4), walking_guard _ _ _ _ _ c.loop.at _ _ c.loop.invariant _ (one_more (goal.at.holds-requires c).In-loop) c.standing_operation-end.result c.standing_operation-end.ensures, c.standing_operation-end.ensures.parts.count)
 
 pub returns-then-holds : goal.returns-then-holds
 returns-then-holds c =

@@ -8,4 +8,4 @@ pub returns-in_err-self-clause-held : goal.returns-in_err-self-clause-held
 returns-in_err-self-clause-held c = held_refused add_branch c.args.self.now c.args.guard c.in_err-self.field-0.0 c.in_err-self.was
 
 pub returns-clause-held : goal.returns-clause-held
-returns-clause-held c = held_onward add_branch c.args.self.now c.args.guard c.in_ok-self.field-0 _ _ c.in_ok-self.was (search rules)
+returns-clause-held c = held_onward add_branch c.args.self.now c.args.guard c.in_ok-self.field-0 _ _ _ c.in_ok-self.was c.kept-self.ensures (search rules)
