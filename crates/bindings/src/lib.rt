@@ -47,8 +47,8 @@ pub fn no_vars() -> Vars
 }
 
 // A variable's kind and bits; whole 0 where it is not bound.
-fn held(v: Vars, variable: u8) -> Scalar
-    ensures { scalar_is result ≡ value_of (bindings_of v) variable }
+fn held(v: &Vars, variable: u8) -> Scalar
+    ensures { scalar_is result ≡ value_of (bindings_of v.now) variable }
 {
     let x = words::size(variable);
     if x < words::VARIABLES {
@@ -60,8 +60,8 @@ fn held(v: Vars, variable: u8) -> Scalar
 }
 
 // What a template's field asks for: forms 0 and 2 one value, form 6 its range, the others any value of the kind.
-fn asked(f: Field, v: Vars) -> Asks
-    ensures { template_field_is result.kind result.given result.lowest result.highest ≡ template_field (bindings_of v) (field_is f) }
+fn asked(f: Field, v: &Vars) -> Asks
+    ensures { template_field_is result.kind result.given result.lowest result.highest ≡ template_field (bindings_of v.now) (field_is f) }
 {
     if f.form == 0 {
         return Asks {
@@ -98,7 +98,7 @@ pub fn template_of(op: Operation, v: Vars) -> Template
     let mut lowest = [0u32; words::MOST_FIELDS];
     let mut highest = [0u32; words::MOST_FIELDS];
     for i in 0..op.count {
-        let a = asked(op.fields[i], v);
+        let a = asked(op.fields[i], &v);
         kinds[i] = a.kind;
         given[i] = a.given;
         lowest[i] = a.lowest;
@@ -114,18 +114,16 @@ pub fn template_of(op: Operation, v: Vars) -> Template
     }
 }
 
-// The variables with what a field binds at a value.
-fn bind_field(v: Vars, f: Field, value: Scalar) -> Vars
-    ensures { bindings_of result ≡ bind_field (bindings_of v) (field_is f) (scalar_is value) }
+// What a field binds at a value is bound.
+fn bind_field(v: &mut Vars, f: Field, value: Scalar)
+    ensures { bindings_of v.new ≡ bind_field (bindings_of v.old) (field_is f) (scalar_is value) }
 {
-    let mut w = v;
     let x = words::size(f.variable);
     if statements::binds(f) {
         if x < words::VARIABLES {
-            w.values[x] = Some(value);
+            v.values[x] = Some(value);
         }
     }
-    w
 }
 
 // The variables with what a template binds at the tuple with index i.
@@ -139,15 +137,15 @@ pub fn bind_at(tuples: &[u8], i: usize, op: Operation, v: Vars) -> Vars
             kind: tuples::kind(tuples, i, j),
             bits: tuples::bits(tuples, i, j),
         };
-        w = bind_field(w, op.fields[j], value);
+        bind_field(&mut w, op.fields[j], value);
     }
     w
 }
 
 // Rule 4: a variable plus, or minus, a field's value; nothing where the result is "off the range or not finite".
-fn sum_value(f: Field, v: Vars, subtract: bool) -> Option<Scalar>
-    requires { Summable (bindings_of v) f.variable (value f.kind f.bits) }
-    ensures { scalar_given result ≡ sum_of subtract f.kind (value_of (bindings_of v) f.variable).bits f.bits }
+fn sum_value(f: Field, v: &Vars, subtract: bool) -> Option<Scalar>
+    requires { Summable (bindings_of v.now) f.variable (value f.kind f.bits) }
+    ensures { scalar_given result ≡ sum_of subtract f.kind (value_of (bindings_of v.now) f.variable).bits f.bits }
 {
     let h = held(v, f.variable);
     let x = sums::add(f.kind, h.bits, f.bits, subtract)?;
@@ -158,9 +156,9 @@ fn sum_value(f: Field, v: Vars, subtract: bool) -> Option<Scalar>
 }
 
 // The value of a field of an out.
-fn field_value(f: Field, v: Vars) -> Option<Scalar>
-    requires { CanMake (bindings_of v) (field_is f) }
-    ensures { scalar_given result ≡ made (bindings_of v) (field_is f) }
+fn field_value(f: Field, v: &Vars) -> Option<Scalar>
+    requires { CanMake (bindings_of v.now) (field_is f) }
+    ensures { scalar_given result ≡ made (bindings_of v.now) (field_is f) }
 {
     match f.form {
         0 => Some(Scalar {
@@ -181,7 +179,7 @@ pub fn make_tuple(op: Operation, v: Vars) -> Option<[u8; words::TUPLE]>
 {
     let mut tuple = tuples::begin_entry(op.from, op.count);
     for j in 0..op.count {
-        let x = field_value(op.fields[j], v)?;
+        let x = field_value(op.fields[j], &v)?;
         tuples::put_value(&mut tuple, j, x.kind, x.bits);
     }
     Some(tuple)

@@ -40,24 +40,21 @@ fn run_operations(
     requires { Section tuples.old n × Ahead body.now at count (bindings_of v) }
     ensures { Leaves (perform_all (operations_at body.now at count) (bindings_of v) (tuples_of tuples.old n)) result.outcome result.n result.vars tuples.new }
 {
-    let mut m = n;
-    let mut w = v;
+    let mut d = Done {
+        outcome: 0,
+        n,
+        vars: v,
+    };
     let mut next = at;
     for _ in 0..count {
         let (op, end) = standing_operation(body, next);
-        let d = operations::perform(tuples, m, op, w);
+        d = operations::perform(tuples, d.n, op, d.vars);
         if d.outcome != 0 {
             return d;
         }
-        m = d.n;
-        w = d.vars;
         next = end;
     }
-    Done {
-        outcome: 0,
-        n: m,
-        vars: w,
-    }
+    d
 }
 
 // Rules 3 to 5 on a branch whose guard was read, and finds the tuple at index i: its guard, then its body.
@@ -65,16 +62,15 @@ fn run_branch(tuples: &mut [u8], n: usize, body: &[u8], guard: (Operation, usize
     requires { Section tuples.old n × GuardRead body.now guard × Finds (tuples_of tuples.old n) (operation_is guard.0) i }
     ensures { Leaves (perform_all (branch_of body.now guard) unbound (tuples_of tuples.old n)) result.outcome result.n result.vars tuples.new × (CannotFail (room_after guard.0.code n) (body_of body.now guard) → result.outcome ≡ 0) }
 {
-    let (op, end) = guard;
-    let d = operations::perform_guard(tuples, n, op, i);
-    let w = d.vars;
+    let end = guard.1;
+    let d = operations::perform_guard(tuples, n, guard.0, i);
     run_operations(
         tuples,
         d.n,
         body,
         end + words::COUNT_WIDTH,
         words::size(body[end]),
-        w,
+        d.vars,
     )
 }
 
@@ -153,15 +149,11 @@ fn run_saved(tuples: &mut [u8], n: usize, body: &[u8], guard: (Operation, usize)
 {
     let mut saved = [0u8; words::TUPLES];
     tuples::copy_rows(&mut saved, 0, tuples, 0, n);
-    let d = run_branch(tuples, n, body, guard, i);
+    let mut d = run_branch(tuples, n, body, guard, i);
     if d.outcome != 0 {
         tuples::copy_rows(tuples, 0, &saved, 0, usize::max(n, d.n));
-        let vars = d.vars;
-        return Done {
-            outcome: d.outcome,
-            n,
-            vars,
-        };
+        d.n = n;
+        return d;
     }
     d
 }
@@ -171,8 +163,8 @@ fn run_whole(tuples: &mut [u8], n: usize, body: &[u8], guard: (Operation, usize)
     requires { Section tuples.old n × GuardRead body.now guard × Finds (tuples_of tuples.old n) (operation_is guard.0) i }
     ensures { Whole (perform_all (branch_of body.now guard) unbound (tuples_of tuples.old n)) (tuples_of tuples.old n) result.outcome result.n result.vars tuples.new }
 {
-    let (op, end) = guard;
-    let room = operations::room_after(op.code, n);
+    let end = guard.1;
+    let room = operations::room_after(guard.0.code, n);
     if cannot_fail(body, end + words::COUNT_WIDTH, words::size(body[end]), room) {
         return run_branch(tuples, n, body, guard, i);
     }
@@ -195,11 +187,10 @@ pub fn execute(tuples: &mut [u8], n: usize, body: &[u8], choice: Choice) -> Ran
 {
     let guard = standing_operation(body, choice.at);
     let d = run_whole(tuples, n, body, guard, choice.tuple);
-    let vars = d.vars;
     Ran {
         branch: choice.branch,
         outcome: d.outcome,
         n: d.n,
-        vars,
+        vars: d.vars,
     }
 }

@@ -25,116 +25,78 @@ pub struct Done {
     pub vars: Vars,
 }
 
-// "in and inp remove the oldest match, rd and rdp read it": the tuple at index i is that match.
+// ---- in place: the outcome and the tuples' number after it, where the variables stand
+
+// "in and inp remove the oldest match, rd and rdp read it": the tuple at index i is that match. How many tuples there are then.
 fn take_found(
     tuples: &mut [u8],
     n: usize,
     op: Operation,
-    v: Vars,
+    v: &mut Vars,
     i: usize,
     withdraws: bool,
-) -> Done
-    requires { Section tuples.old n × (op.count ≤ most_fields) × OldestAt (bindings_of v) op.from (fields_in op) tuples.old n i }
-    ensures { Leaves (look_up withdraws (bindings_of v) op.from (fields_in op) (tuples_of tuples.old n)) result.outcome result.n result.vars tuples.new × (result.outcome ≡ 0) × (result.n ≡ after_taking withdraws n) }
+) -> usize
+    requires { Section tuples.old n × (op.count ≤ most_fields) × OldestAt (bindings_of v.old) op.from (fields_in op) tuples.old n i }
+    ensures { Leaves (look_up withdraws (bindings_of v.old) op.from (fields_in op) (tuples_of tuples.old n)) 0 result v.new tuples.new × (result ≡ after_taking withdraws n) }
 {
-    let w = bindings::bind_at(tuples, i, op, v);
+    *v = bindings::bind_at(tuples, i, op, *v);
     if withdraws {
         tuples::remove(tuples, n, i);
-        return Done {
-            outcome: 0,
-            n: n - 1,
-            vars: w,
-        };
+        return n - 1;
     }
-    Done {
-        outcome: 0,
-        n,
-        vars: w,
-    }
+    n
 }
 
 // The oldest match is looked for, and taken or read; 16 where there is none.
-fn look_up(tuples: &mut [u8], n: usize, op: Operation, v: Vars, withdraws: bool) -> Done
+fn look_up(tuples: &mut [u8], n: usize, op: Operation, v: &mut Vars, withdraws: bool) -> (u8, usize)
     requires { Section tuples.old n × (op.count ≤ most_fields) }
-    ensures { Leaves (look_up withdraws (bindings_of v) op.from (fields_in op) (tuples_of tuples.old n)) result.outcome result.n result.vars tuples.new }
+    ensures { Leaves (look_up withdraws (bindings_of v.old) op.from (fields_in op) (tuples_of tuples.old n)) result.0 result.1 v.new tuples.new }
 {
-    match matching::find(tuples, n, bindings::template_of(op, v)) {
-        Some(i) => take_found(tuples, n, op, v, i, withdraws),
-        None => Done {
-            outcome: 16,
-            n,
-            vars: v,
-        },
+    match matching::find(tuples, n, bindings::template_of(op, *v)) {
+        Some(i) => (0, take_found(tuples, n, op, v, i, withdraws)),
+        None => (16, n),
     }
 }
 
 // "out appends": 17 where a value is off the range or not finite, 12 where the tuples would pass 512.
-fn deposit(tuples: &mut [u8], n: usize, op: Operation, v: Vars) -> Done
-    requires { Section tuples.old n × (op.count ≤ most_fields) × CanDeposit (bindings_of v) op.from (fields_in op) }
-    ensures { Leaves (perform (deposit op.from (fields_in op)) (bindings_of v) (tuples_of tuples.old n)) result.outcome result.n result.vars tuples.new }
+fn deposit(tuples: &mut [u8], n: usize, op: Operation, v: &Vars) -> (u8, usize)
+    requires { Section tuples.old n × (op.count ≤ most_fields) × CanDeposit (bindings_of v.now) op.from (fields_in op) }
+    ensures { Leaves (perform (deposit op.from (fields_in op)) (bindings_of v.now) (tuples_of tuples.old n)) result.0 result.1 v.now tuples.new }
 {
-    let Some(tuple) = bindings::make_tuple(op, v) else {
-        return Done {
-            outcome: 17,
-            n,
-            vars: v,
-        };
+    let Some(tuple) = bindings::make_tuple(op, *v) else {
+        return (17, n);
     };
     if words::MOST_TUPLES <= n {
-        return Done {
-            outcome: 12,
-            n,
-            vars: v,
-        };
+        return (12, n);
     }
     tuples::append(tuples, n, &tuple);
-    Done {
-        outcome: 0,
-        n: n + 1,
-        vars: v,
-    }
+    (0, n + 1)
 }
 
 // "move removes all matches and appends them to the new space", copy appends copies; 12 where these would pass 512.
-fn transfer(tuples: &mut [u8], n: usize, op: Operation, v: Vars, withdraws: bool) -> Done
+fn transfer(tuples: &mut [u8], n: usize, op: Operation, v: &Vars, withdraws: bool) -> (u8, usize)
     requires { Section tuples.old n × (op.count ≤ most_fields) × (op.to < space_numbers) }
-    ensures { Leaves (perform (transfer withdraws op.from op.to (fields_in op)) (bindings_of v) (tuples_of tuples.old n)) result.outcome result.n result.vars tuples.new }
+    ensures { Leaves (perform (transfer withdraws op.from op.to (fields_in op)) (bindings_of v.now) (tuples_of tuples.old n)) result.0 result.1 v.now tuples.new }
 {
-    let t = bindings::template_of(op, v);
+    let t = bindings::template_of(op, *v);
     if withdraws {
         moves::move_all(tuples, n, t, op.to);
-        return Done {
-            outcome: 0,
-            n,
-            vars: v,
-        };
+        return (0, n);
     }
     match moves::copy_all(tuples, n, t, op.to) {
-        Some(m) => Done {
-            outcome: 0,
-            n: m,
-            vars: v,
-        },
-        None => Done {
-            outcome: 12,
-            n,
-            vars: v,
-        },
+        Some(m) => (0, m),
+        None => (12, n),
     }
 }
 
-// Rule 3: one operation, by its code.
-pub fn perform(tuples: &mut [u8], n: usize, op: Operation, v: Vars) -> Done
-    requires { Section tuples.old n × (op.count ≤ most_fields) × CanPerform (bindings_of v) (operation_is op) }
-    ensures { Leaves (perform (operation_is op) (bindings_of v) (tuples_of tuples.old n)) result.outcome result.n result.vars tuples.new }
+// One operation, by its code.
+fn perform_in(tuples: &mut [u8], n: usize, op: Operation, v: &mut Vars) -> (u8, usize)
+    requires { Section tuples.old n × (op.count ≤ most_fields) × CanPerform (bindings_of v.old) (operation_is op) }
+    ensures { Leaves (perform (operation_is op) (bindings_of v.old) (tuples_of tuples.old n)) result.0 result.1 v.new tuples.new }
 {
     let code = op.code;
     match code {
-        0 => Done {
-            outcome: 0,
-            n,
-            vars: v,
-        },
+        0 => (0, n),
         1 | 2 => look_up(tuples, n, op, v, true),
         3 | 4 => look_up(tuples, n, op, v, false),
         5 => deposit(tuples, n, op, v),
@@ -143,21 +105,44 @@ pub fn perform(tuples: &mut [u8], n: usize, op: Operation, v: Vars) -> Done
     }
 }
 
+// A guard whose tuple, if it looks for one, was found at index i. How many tuples there are then.
+fn guard_in(tuples: &mut [u8], n: usize, op: Operation, v: &mut Vars, i: usize) -> usize
+    requires { Section tuples.old n × (op.count ≤ most_fields) × Finds (tuples_of tuples.old n) (operation_is op) i × (bindings_of v.old ≡ unbound) }
+    ensures { Leaves (perform (operation_is op) unbound (tuples_of tuples.old n)) 0 result v.new tuples.new × (result + room_after op.code n ≡ most_tuples) }
+{
+    let code = op.code;
+    match code {
+        0 => n,
+        1 | 2 => take_found(tuples, n, op, v, i, true),
+        _ => take_found(tuples, n, op, v, i, false),
+    }
+}
+
+// Rule 3: one operation, by its code.
+pub fn perform(tuples: &mut [u8], n: usize, op: Operation, v: Vars) -> Done
+    requires { Section tuples.old n × (op.count ≤ most_fields) × CanPerform (bindings_of v) (operation_is op) }
+    ensures { Leaves (perform (operation_is op) (bindings_of v) (tuples_of tuples.old n)) result.outcome result.n result.vars tuples.new }
+{
+    let mut vars = v;
+    let (outcome, left) = perform_in(tuples, n, op, &mut vars);
+    Done {
+        outcome,
+        n: left,
+        vars,
+    }
+}
+
 // A guard whose tuple, if it looks for one, was found at index i, with no variable bound before it.
 pub fn perform_guard(tuples: &mut [u8], n: usize, op: Operation, i: usize) -> Done
     requires { Section tuples.old n × (op.count ≤ most_fields) × Finds (tuples_of tuples.old n) (operation_is op) i }
     ensures { Leaves (perform (operation_is op) unbound (tuples_of tuples.old n)) result.outcome result.n result.vars tuples.new × (result.outcome ≡ 0) × (result.n + room_after op.code n ≡ most_tuples) }
 {
-    let v = bindings::no_vars();
-    let code = op.code;
-    match code {
-        0 => Done {
-            outcome: 0,
-            n,
-            vars: v,
-        },
-        1 | 2 => take_found(tuples, n, op, v, i, true),
-        _ => take_found(tuples, n, op, v, i, false),
+    let mut vars = bindings::no_vars();
+    let left = guard_in(tuples, n, op, &mut vars, i);
+    Done {
+        outcome: 0,
+        n: left,
+        vars,
     }
 }
 

@@ -14,13 +14,13 @@ use Rattle.bindings.proofs.bind_field.Goals as goal
 
 pub returns-then-x-lt-VARIABLES : goal.returns-then-x-lt-VARIABLES
 returns-then-x-lt-VARIABLES c =
-    binds c.args.v c.args.f c.args.value c.size-x.result (binds_some c.args.f c.binds.result c.binds.ensures c.if-binds.true) c.size-x.ensures.0
+    binds c.args.v.now c.args.f c.args.value c.size-x.result (binds_some c.args.f c.binds.result c.binds.ensures c.if-binds.true) c.size-x.ensures.0
 
 pub returns-else-x-lt-VARIABLES : goal.returns-else-x-lt-VARIABLES
 returns-else-x-lt-VARIABLES c =
-    let n : length c.args.v.values ≡ variables = search (rules, length_mapped) in
-    binds_past c.args.v c.args.f c.args.value c.size-x.result n (binds_some c.args.f c.binds.result c.binds.ensures c.if-binds.true) c.size-x.ensures.0 c.if-x-lt-VARIABLES.false
+    let n : length c.args.v.now.values ≡ variables = search (rules, length_mapped) in
+    binds_past c.args.v.now c.args.f c.args.value c.size-x.result n (binds_some c.args.f c.binds.result c.binds.ensures c.if-binds.true) c.size-x.ensures.0 c.if-x-lt-VARIABLES.false
 
 pub returns-else-binds : goal.returns-else-binds
 returns-else-binds c =
-    sym (values_left (bindings_of c.args.v) (field_is c.args.f) (scalar_is c.args.value) (binds_none c.args.f c.binds.result c.binds.ensures c.if-binds.false))
+    sym (values_left (bindings_of c.args.v.now) (field_is c.args.f) (scalar_is c.args.value) (binds_none c.args.f c.binds.result c.binds.ensures c.if-binds.false))

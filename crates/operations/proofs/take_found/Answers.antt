@@ -1,6 +1,6 @@
 -- `operations::take_found` meets its contract. Assumes nothing.
 use borrow.Author.Rules.{rules}
-use mathlib.Core.Path.{◌≡◌, refl, ◌∙◌}
+use mathlib.Core.Path.{◌≡◌, ◌∙◌}
 use Prim.Native.Nat.{◌≤◌, ◌<◌}
 use native.Mathlib.Omega.{arith}
 use lib.ListN.{length}
@@ -17,14 +17,14 @@ few : (c : Start) → c.args.op.count ≤ length c.args.op.fields
 few c = let six : length c.args.op.fields ≡ most_fields = search (rules, length_mapped) in omega (arith, c.requires.1)
 
 below : (c : Start) → c.args.i < c.args.n
-below c = let a = c.args in at_below (bindings_of a.v) a.op.from (fields_in a.op) a.tuples.now a.n a.i c.requires.2
+below c = let a = c.args in at_below (bindings_of a.v.now) a.op.from (fields_in a.op) a.tuples.now a.n a.i c.requires.2
 
-pub bind_at-w-requires : goal.bind_at-w-requires
-bind_at-w-requires c =
+pub bind_at-requires : goal.bind_at-requires
+bind_at-requires c =
     let a = c.args in (
       c.requires.1,
-      omega (arith, below (goal.at.bind_at-w-requires c).Start, c.requires.0.few, holds_length tuple_shape _ _ _ c.requires.0),
-      at_count (bindings_of a.v) a.op.from (fields_in a.op) a.tuples.now a.n a.i c.requires.2 ∙ fields_length a.op.fields a.op.count (few (goal.at.bind_at-w-requires c).Start),
+      omega (arith, below (goal.at.bind_at-requires c).Start, c.requires.0.few, holds_length tuple_shape _ _ _ c.requires.0),
+      at_count (bindings_of a.v.now) a.op.from (fields_in a.op) a.tuples.now a.n a.i c.requires.2 ∙ fields_length a.op.fields a.op.count (few (goal.at.bind_at-requires c).Start),
     )
 
 pub remove-requires : goal.remove-requires
@@ -37,13 +37,9 @@ overflow_sub-result c =
 pub returns-then-withdraws : goal.returns-then-withdraws
 returns-then-withdraws c =
     let a = c.args in
-    let r =
-    look_removed (bindings_of a.v) a.op.from (fields_in a.op) a.tuples.now a.n a.i c.requires.2 c.bind_at-w.result c.bind_at-w.ensures a.withdraws c.if-withdraws.true _ c.remove.ensures in
-    (r.0, refl, r.1)
+    look_removed (bindings_of a.v.now) a.op.from (fields_in a.op) a.tuples.now a.n a.i c.requires.2 c.bind_at.result c.bind_at.ensures a.withdraws c.if-withdraws.true _ c.remove.ensures
 
 pub returns : goal.returns
 returns c =
     let a = c.args in
-    let r =
-    look_read (bindings_of a.v) a.op.from (fields_in a.op) a.tuples.now a.n a.i c.requires.2 c.bind_at-w.result c.bind_at-w.ensures a.withdraws c.if-withdraws.false c.requires.0 in
-    (r.0, refl, r.1)
+    look_read (bindings_of a.v.now) a.op.from (fields_in a.op) a.tuples.now a.n a.i c.requires.2 c.bind_at.result c.bind_at.ensures a.withdraws c.if-withdraws.false c.requires.0

@@ -1,5 +1,5 @@
--- `operations::perform_guard` meets its contract. Assumes nothing.
-use mathlib.Core.Path.{◌≡◌, refl, sym, ap, subst, ◌∙◌}
+-- `operations::guard_in` meets its contract. Assumes nothing.
+use mathlib.Core.Path.{◌≡◌, sym, ap, subst, ◌∙◌}
 use Prim.Native.Nat.{ℕ, ◌≤◌, ◌<◌}
 use mathlib.Core.List.{List}
 use native.Mathlib.Omega.{arith}
@@ -14,7 +14,7 @@ use Rattle.bindings.specs.Fields.{fields_in}
 use Rattle.bindings.specs.Variables.{bindings_of}
 use Rattle.operations.specs.Performing.{look_up, OldestAt, at_below, leaves_done}
 use Rattle.operations.specs.Codes.{leaves_as, code_true, code_in, code_rd, guard_at, room_true, room_taken, room_left}
-use Rattle.operations.proofs.perform_guard.Goals as goal
+use Rattle.operations.proofs.guard_in.Goals as goal
 
 -- a guard that is not true
 module _ (o : Operation) (p : List ℕ) (n i : ℕ) (f : Finds (tuples_of p n) (operation_is o) i) (z : o.code ≡ 0 → ⊥) where
@@ -31,21 +31,19 @@ pub take_found-requires : goal.take_found-requires
 take_found-requires c =
     let a = c.args in
     let z : a.op.code ≡ 0 → ⊥ = λ e. omega arith in
-    (c.requires.0, c.requires.1, found_with a.op a.tuples.now a.n a.i c.requires.2 z c.no_vars-v.result c.no_vars-v.ensures)
+    (c.requires.0, c.requires.1, found_with a.op a.tuples.now a.n a.i c.requires.2 z a.v.now c.requires.3)
 
 pub take_found-requires-in_default : goal.take_found-requires-in_default
 take_found-requires-in_default c =
     let a = c.args in
     let z : a.op.code ≡ 0 → ⊥ = λ e. omega arith in
-    (c.requires.0, c.requires.1, found_with a.op a.tuples.now a.n a.i c.requires.2 z c.no_vars-v.result c.no_vars-v.ensures)
+    (c.requires.0, c.requires.1, found_with a.op a.tuples.now a.n a.i c.requires.2 z a.v.now c.requires.3)
 
 pub returns-in-0 : goal.returns-in-0
 returns-in-0 c =
-    let v = c.no_vars-v in
     let a = c.args in
     let ts = tuples_of a.tuples.now a.n in (
-      leaves_as _ _ 0 a.n v.result a.tuples.now (code_true a.op unbound ts c.in-0.is) (leaves_done unbound ts a.n v.result a.tuples.now v.ensures c.requires.0),
-      refl,
+      leaves_as _ _ 0 a.n a.v.now a.tuples.now (code_true a.op unbound ts c.in-0.is) (leaves_done unbound ts a.n a.v.now a.tuples.now c.requires.3 c.requires.0),
       omega (arith, room_true a.op.code a.n c.in-0.is, c.requires.0.few),
     )
 
@@ -56,10 +54,9 @@ returns-in-1 c =
     let r = c.take_found in
     let z : a.op.code ≡ 0 → ⊥ = λ e. omega arith in
     let few : a.op.code < 3 = omega arith in (
-      leaves_as _ _ r.result.outcome r.result.n r.result.vars _
-          (ap (λ (bs : Bindings). look_up true bs a.op.from (fields_in a.op) ts) c.no_vars-v.ensures ∙ code_in a.op unbound ts z few) r.ensures.0,
-      r.ensures.1,
-      room_taken a.op.code a.n a.i r.result.n (below a.op a.tuples.now a.n a.i c.requires.2 z) c.requires.0.few z few r.ensures.2,
+      leaves_as _ _ 0 r.result r.new.v _
+          (ap (λ (bs : Bindings). look_up true bs a.op.from (fields_in a.op) ts) c.requires.3 ∙ code_in a.op unbound ts z few) r.ensures.0,
+      room_taken a.op.code a.n a.i r.result (below a.op a.tuples.now a.n a.i c.requires.2 z) c.requires.0.few z few r.ensures.1,
     )
 
 pub returns-in_default : goal.returns-in_default
@@ -69,8 +66,7 @@ returns-in_default c =
     let r = c.take_found-in_default in
     let z : a.op.code ≡ 0 → ⊥ = λ e. omega arith in
     let many : 3 ≤ a.op.code = omega arith in (
-      leaves_as _ _ r.result.outcome r.result.n r.result.vars _
-          (ap (λ (bs : Bindings). look_up false bs a.op.from (fields_in a.op) ts) c.no_vars-v.ensures ∙ code_rd a.op unbound ts many (found a.op a.tuples.now a.n a.i c.requires.2 z).0) r.ensures.0,
-      r.ensures.1,
-      room_left a.op.code a.n r.result.n c.requires.0.few many r.ensures.2,
+      leaves_as _ _ 0 r.result r.new.v _
+          (ap (λ (bs : Bindings). look_up false bs a.op.from (fields_in a.op) ts) c.requires.3 ∙ code_rd a.op unbound ts many (found a.op a.tuples.now a.n a.i c.requires.2 z).0) r.ensures.0,
+      room_left a.op.code a.n r.result c.requires.0.few many r.ensures.1,
     )
