@@ -48,22 +48,28 @@ fn take_found(
 }
 
 // The oldest match is looked for, and taken or read; 16 where there is none.
-fn look_up(tuples: &mut [u8], n: usize, op: Operation, v: &mut Vars, withdraws: bool) -> (u8, usize)
-    requires { Section tuples.old n × (op.count ≤ most_fields) }
-    ensures { Leaves (look_up withdraws (bindings_of v.old) op.from (fields_in op) (tuples_of tuples.old n)) result.0 result.1 v.new tuples.new }
+fn look_up(
+    tuples: &mut [u8],
+    n: usize,
+    op: &Operation,
+    v: &mut Vars,
+    withdraws: bool,
+) -> (u8, usize)
+    requires { Section tuples.old n × (op.now.count ≤ most_fields) }
+    ensures { Leaves (look_up withdraws (bindings_of v.old) op.now.from (fields_in op.now) (tuples_of tuples.old n)) result.0 result.1 v.new tuples.new }
 {
-    match matching::find(tuples, n, bindings::template_of(op, *v)) {
-        Some(i) => (0, take_found(tuples, n, op, v, i, withdraws)),
+    match matching::find(tuples, n, bindings::template_of(*op, *v)) {
+        Some(i) => (0, take_found(tuples, n, *op, v, i, withdraws)),
         None => (16, n),
     }
 }
 
 // "out appends": 17 where a value is off the range or not finite, 12 where the tuples would pass 512.
-fn deposit(tuples: &mut [u8], n: usize, op: Operation, v: &Vars) -> (u8, usize)
-    requires { Section tuples.old n × (op.count ≤ most_fields) × CanDeposit (bindings_of v.now) op.from (fields_in op) }
-    ensures { Leaves (perform (deposit op.from (fields_in op)) (bindings_of v.now) (tuples_of tuples.old n)) result.0 result.1 v.now tuples.new }
+fn deposit(tuples: &mut [u8], n: usize, op: &Operation, v: &Vars) -> (u8, usize)
+    requires { Section tuples.old n × (op.now.count ≤ most_fields) × CanDeposit (bindings_of v.now) op.now.from (fields_in op.now) }
+    ensures { Leaves (perform (deposit op.now.from (fields_in op.now)) (bindings_of v.now) (tuples_of tuples.old n)) result.0 result.1 v.now tuples.new }
 {
-    let Some(tuple) = bindings::make_tuple(op, *v) else {
+    let Some(tuple) = bindings::make_tuple(*op, *v) else {
         return (17, n);
     };
     if words::MOST_TUPLES <= n {
@@ -74,11 +80,11 @@ fn deposit(tuples: &mut [u8], n: usize, op: Operation, v: &Vars) -> (u8, usize)
 }
 
 // "move removes all matches and appends them to the new space", copy appends copies; 12 where these would pass 512.
-fn transfer(tuples: &mut [u8], n: usize, op: Operation, v: &Vars, withdraws: bool) -> (u8, usize)
-    requires { Section tuples.old n × (op.count ≤ most_fields) × (op.to < space_numbers) }
-    ensures { Leaves (perform (transfer withdraws op.from op.to (fields_in op)) (bindings_of v.now) (tuples_of tuples.old n)) result.0 result.1 v.now tuples.new }
+fn transfer(tuples: &mut [u8], n: usize, op: &Operation, v: &Vars, withdraws: bool) -> (u8, usize)
+    requires { Section tuples.old n × (op.now.count ≤ most_fields) × (op.now.to < space_numbers) }
+    ensures { Leaves (perform (transfer withdraws op.now.from op.now.to (fields_in op.now)) (bindings_of v.now) (tuples_of tuples.old n)) result.0 result.1 v.now tuples.new }
 {
-    let t = bindings::template_of(op, *v);
+    let t = bindings::template_of(*op, *v);
     if withdraws {
         moves::move_all(tuples, n, t, op.to);
         return (0, n);
@@ -90,9 +96,9 @@ fn transfer(tuples: &mut [u8], n: usize, op: Operation, v: &Vars, withdraws: boo
 }
 
 // One operation, by its code.
-fn perform_in(tuples: &mut [u8], n: usize, op: Operation, v: &mut Vars) -> (u8, usize)
-    requires { Section tuples.old n × (op.count ≤ most_fields) × CanPerform (bindings_of v.old) (operation_is op) }
-    ensures { Leaves (perform (operation_is op) (bindings_of v.old) (tuples_of tuples.old n)) result.0 result.1 v.new tuples.new }
+fn perform_in(tuples: &mut [u8], n: usize, op: &Operation, v: &mut Vars) -> (u8, usize)
+    requires { Section tuples.old n × (op.now.count ≤ most_fields) × CanPerform (bindings_of v.old) (operation_is op.now) }
+    ensures { Leaves (perform (operation_is op.now) (bindings_of v.old) (tuples_of tuples.old n)) result.0 result.1 v.new tuples.new }
 {
     let code = op.code;
     match code {
@@ -106,15 +112,15 @@ fn perform_in(tuples: &mut [u8], n: usize, op: Operation, v: &mut Vars) -> (u8, 
 }
 
 // A guard whose tuple, if it looks for one, was found at index i. How many tuples there are then.
-fn guard_in(tuples: &mut [u8], n: usize, op: Operation, v: &mut Vars, i: usize) -> usize
-    requires { Section tuples.old n × (op.count ≤ most_fields) × Finds (tuples_of tuples.old n) (operation_is op) i × (bindings_of v.old ≡ unbound) }
-    ensures { Leaves (perform (operation_is op) unbound (tuples_of tuples.old n)) 0 result v.new tuples.new × (result + room_after op.code n ≡ most_tuples) }
+fn guard_in(tuples: &mut [u8], n: usize, op: &Operation, v: &mut Vars, i: usize) -> usize
+    requires { Section tuples.old n × (op.now.count ≤ most_fields) × Finds (tuples_of tuples.old n) (operation_is op.now) i × (bindings_of v.old ≡ unbound) }
+    ensures { Leaves (perform (operation_is op.now) unbound (tuples_of tuples.old n)) 0 result v.new tuples.new × (result + room_after op.now.code n ≡ most_tuples) }
 {
     let code = op.code;
     match code {
         0 => n,
-        1 | 2 => take_found(tuples, n, op, v, i, true),
-        _ => take_found(tuples, n, op, v, i, false),
+        1 | 2 => take_found(tuples, n, *op, v, i, true),
+        _ => take_found(tuples, n, *op, v, i, false),
     }
 }
 
@@ -124,7 +130,7 @@ pub fn perform(tuples: &mut [u8], n: usize, op: Operation, v: Vars) -> Done
     ensures { Leaves (perform (operation_is op) (bindings_of v) (tuples_of tuples.old n)) result.outcome result.n result.vars tuples.new }
 {
     let mut vars = v;
-    let (outcome, left) = perform_in(tuples, n, op, &mut vars);
+    let (outcome, left) = perform_in(tuples, n, &op, &mut vars);
     Done {
         outcome,
         n: left,
@@ -138,7 +144,7 @@ pub fn perform_guard(tuples: &mut [u8], n: usize, op: Operation, i: usize) -> Do
     ensures { Leaves (perform (operation_is op) unbound (tuples_of tuples.old n)) result.outcome result.n result.vars tuples.new × (result.outcome ≡ 0) × (result.n + room_after op.code n ≡ most_tuples) }
 {
     let mut vars = bindings::no_vars();
-    let left = guard_in(tuples, n, op, &mut vars, i);
+    let left = guard_in(tuples, n, &op, &mut vars, i);
     Done {
         outcome: 0,
         n: left,

@@ -13,21 +13,21 @@ append-requires c =
     let a = c.args in (
       c.requires.0,
       c.if-n-ge-MOST_TUPLES.false,
-      deposit_entry (bindings_of a.v.now) a.op.from (fields_in a.op) a.tuples.now a.n a.v.now refl c.in-Some.tuple c.in-Some.ensures c.requires.2,
+      deposit_entry (bindings_of a.v.now) a.op.now.from (fields_in a.op.now) a.tuples.now a.n a.v.now refl c.in-Some.tuple c.in-Some.ensures c.requires.2,
     )
 
 pub returns-in_default : goal.returns-in_default
 returns-in_default c =
     let a = c.args in
-    deposit_unmade (bindings_of a.v.now) a.op.from (fields_in a.op) a.tuples.now a.n a.v.now refl c.requires.0 c.in_default.ensures
+    deposit_unmade (bindings_of a.v.now) a.op.now.from (fields_in a.op.now) a.tuples.now a.n a.v.now refl c.requires.0 c.in_default.ensures
 
 pub returns-then-n-ge-MOST_TUPLES : goal.returns-then-n-ge-MOST_TUPLES
 returns-then-n-ge-MOST_TUPLES c =
     let a = c.args in
-    deposit_full (bindings_of a.v.now) a.op.from (fields_in a.op) a.tuples.now a.n a.v.now refl c.in-Some.tuple c.in-Some.ensures c.requires.0 c.if-n-ge-MOST_TUPLES.true
+    deposit_full (bindings_of a.v.now) a.op.now.from (fields_in a.op.now) a.tuples.now a.n a.v.now refl c.in-Some.tuple c.in-Some.ensures c.requires.0 c.if-n-ge-MOST_TUPLES.true
 
 pub returns : goal.returns
 returns c =
     let a = c.args in
-    deposit_done (bindings_of a.v.now) a.op.from (fields_in a.op) a.tuples.now a.n a.v.now refl c.in-Some.tuple c.in-Some.ensures _ c.if-n-ge-MOST_TUPLES.false c.requires.2
+    deposit_done (bindings_of a.v.now) a.op.now.from (fields_in a.op.now) a.tuples.now a.n a.v.now refl c.in-Some.tuple c.in-Some.ensures _ c.if-n-ge-MOST_TUPLES.false c.requires.2
     c.append.ensures

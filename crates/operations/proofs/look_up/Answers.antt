@@ -24,7 +24,7 @@ take_found-requires c =
     let a = c.args in (
       c.requires.0,
       c.requires.1,
-      search_at (bindings_of a.v.now) a.op.from (fields_in a.op) (bytes (goal.at.take_found-requires c).After-find) a.n c.template_of.result c.template_of.ensures.0 c.in-Some.i
+      search_at (bindings_of a.v.now) a.op.now.from (fields_in a.op.now) (bytes (goal.at.take_found-requires c).After-find) a.n c.template_of.result c.template_of.ensures.0 c.in-Some.i
           (ap (found_is (bytes (goal.at.take_found-requires c).After-find)) (sym c.in-Some.is) ∙ c.find.ensures),
     )
 
@@ -34,5 +34,5 @@ returns-in-Some c = c.take_found.ensures.0
 pub returns-in-None : goal.returns-in-None
 returns-in-None c =
     let a = c.args in
-    search_none (bindings_of a.v.now) a.op.from (fields_in a.op) (bytes (goal.at.returns-in-None c).After-find) a.n c.template_of.result c.template_of.ensures.0
+    search_none (bindings_of a.v.now) a.op.now.from (fields_in a.op.now) (bytes (goal.at.returns-in-None c).After-find) a.n c.template_of.result c.template_of.ensures.0
     (ap (found_is (bytes (goal.at.returns-in-None c).After-find)) (sym c.in-None.is) ∙ c.find.ensures) a.withdraws a.v.now c.requires.0
