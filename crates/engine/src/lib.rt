@@ -28,33 +28,20 @@ use walk::Choice;
 
 // ---- operations in their order
 
-// Rule 3: "The body runs in order": so many operations from a position on; the first to fail decides.
-fn run_operations(
-    tuples: &mut [u8],
-    n: usize,
-    body: &[u8],
-    at: usize,
-    count: usize,
-    v: Vars,
-) -> Done
-    requires { Section tuples.old n × Ahead body.now at count (bindings_of v) }
-    ensures { Leaves (perform_all (operations_at body.now at count) (bindings_of v) (tuples_of tuples.old n)) result.outcome result.n result.vars tuples.new }
+// Rule 3: "The body runs in order": after what is done, so many operations from a position on; the first to fail decides.
+fn run_operations(tuples: &mut [u8], body: &[u8], at: usize, count: usize, d: &mut Done)
+    requires { (d.old.outcome ≡ 0) × Section tuples.old d.old.n × Ahead body.now at count (bindings_of d.old.vars) }
+    ensures { Leaves (perform_all (operations_at body.now at count) (bindings_of d.old.vars) (tuples_of tuples.old d.old.n)) d.new.outcome d.new.n d.new.vars tuples.new }
 {
-    let mut d = Done {
-        outcome: 0,
-        n,
-        vars: v,
-    };
     let mut next = at;
     for _ in 0..count {
         let (op, end) = standing_operation(body, next);
-        d = operations::perform(tuples, d.n, op, d.vars);
+        *d = operations::perform(tuples, d.n, op, d.vars);
         if d.outcome != 0 {
-            return d;
+            break;
         }
         next = end;
     }
-    d
 }
 
 // Rules 3 to 5 on a branch whose guard was read, and finds the tuple at index i: its guard, then its body.
@@ -63,15 +50,15 @@ fn run_branch(tuples: &mut [u8], n: usize, body: &[u8], guard: (Operation, usize
     ensures { Leaves (perform_all (branch_of body.now guard) unbound (tuples_of tuples.old n)) result.outcome result.n result.vars tuples.new × (CannotFail (room_after guard.0.code n) (body_of body.now guard) → result.outcome ≡ 0) }
 {
     let end = guard.1;
-    let d = operations::perform_guard(tuples, n, guard.0, i);
+    let mut d = operations::perform_guard(tuples, n, guard.0, i);
     run_operations(
         tuples,
-        d.n,
         body,
         end + words::COUNT_WIDTH,
         words::size(body[end]),
-        d.vars,
-    )
+        &mut d,
+    );
+    d
 }
 
 // ---- operations that cannot fail

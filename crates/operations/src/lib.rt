@@ -129,13 +129,13 @@ pub fn perform(tuples: &mut [u8], n: usize, op: Operation, v: Vars) -> Done
     requires { Section tuples.old n × (op.count ≤ most_fields) × CanPerform (bindings_of v) (operation_is op) }
     ensures { Leaves (perform (operation_is op) (bindings_of v) (tuples_of tuples.old n)) result.outcome result.n result.vars tuples.new }
 {
-    let mut vars = v;
-    let (outcome, left) = perform_in(tuples, n, &op, &mut vars);
-    Done {
-        outcome,
-        n: left,
-        vars,
-    }
+    let mut d = Done {
+        outcome: 0,
+        n,
+        vars: v,
+    };
+    (d.outcome, d.n) = perform_in(tuples, n, &op, &mut d.vars);
+    d
 }
 
 // A guard whose tuple, if it looks for one, was found at index i, with no variable bound before it.
@@ -143,13 +143,13 @@ pub fn perform_guard(tuples: &mut [u8], n: usize, op: Operation, i: usize) -> Do
     requires { Section tuples.old n × (op.count ≤ most_fields) × Finds (tuples_of tuples.old n) (operation_is op) i }
     ensures { Leaves (perform (operation_is op) unbound (tuples_of tuples.old n)) result.outcome result.n result.vars tuples.new × (result.outcome ≡ 0) × (result.n + room_after op.code n ≡ most_tuples) }
 {
-    let mut vars = bindings::no_vars();
-    let left = guard_in(tuples, n, &op, &mut vars, i);
-    Done {
+    let mut d = Done {
         outcome: 0,
-        n: left,
-        vars,
-    }
+        n,
+        vars: bindings::no_vars(),
+    };
+    d.n = guard_in(tuples, n, &op, &mut d.vars, i);
+    d
 }
 
 // The room for tuples after a guard of a code: in and inp make room for one more.

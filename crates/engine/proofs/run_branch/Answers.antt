@@ -39,12 +39,12 @@ module _ (c : After-perform_guard-d) where
 
 pub run_operations-requires : goal.run_operations-requires
 run_operations-requires c =
-    (c.perform_guard-d.ensures.0.section, subst (λ (k : ℕ). Ahead (bytes (goal.at.run_operations-requires c).After-perform_guard-d) (from (goal.at.run_operations-requires c).After-perform_guard-d) k (bindings_of c.perform_guard-d.result.vars)) (sym c.size.ensures.0) (goes (goal.at.run_operations-requires c).After-perform_guard-d).0)
+    (c.perform_guard-d.ensures.1, c.perform_guard-d.ensures.0.section, subst (λ (k : ℕ). Ahead (bytes (goal.at.run_operations-requires c).After-perform_guard-d) (from (goal.at.run_operations-requires c).After-perform_guard-d) k (bindings_of c.perform_guard-d.result.vars)) (sym c.size.ensures.0) (goes (goal.at.run_operations-requires c).After-perform_guard-d).0)
 
 pub returns : goal.returns
 returns c =
     let d = c.perform_guard-d in
-    let r = c.run_operations.result in
+    let r = c.run_operations.new.d in
     let body = body_of (bytes (goal.at.returns c).After-perform_guard-d) c.args.guard in
     let bs = bindings_of d.result.vars in
     let ts = tuples_of d.new.tuples d.result.n in
