@@ -45,9 +45,15 @@ fn run_operations(tuples: &mut [u8], body: &[u8], at: usize, count: usize, d: &m
 }
 
 // Rules 3 to 5 on a branch whose guard was read, and finds the tuple at index i: its guard, then its body.
-fn run_branch(tuples: &mut [u8], n: usize, body: &[u8], guard: (Operation, usize), i: usize) -> Done
-    requires { Section tuples.old n × GuardRead body.now guard × Finds (tuples_of tuples.old n) (operation_is guard.0) i }
-    ensures { Leaves (perform_all (branch_of body.now guard) unbound (tuples_of tuples.old n)) result.outcome result.n result.vars tuples.new × (CannotFail (room_after guard.0.code n) (body_of body.now guard) → result.outcome ≡ 0) }
+fn run_branch(
+    tuples: &mut [u8],
+    n: usize,
+    body: &[u8],
+    guard: &(Operation, usize),
+    i: usize,
+) -> Done
+    requires { Section tuples.old n × GuardRead body.now guard.now × Finds (tuples_of tuples.old n) (operation_is guard.now.0) i }
+    ensures { Leaves (perform_all (branch_of body.now guard.now) unbound (tuples_of tuples.old n)) result.outcome result.n result.vars tuples.new × (CannotFail (room_after guard.now.0.code n) (body_of body.now guard.now) → result.outcome ≡ 0) }
 {
     let end = guard.1;
     let mut d = operations::perform_guard(tuples, n, guard.0, i);
@@ -130,9 +136,9 @@ fn cannot_fail(body: &[u8], at: usize, count: usize, room: usize) -> bool
 // ---- whole or not at all
 
 // Rule 5 on a branch that can fail: the tuples are saved, and put back where it fails.
-fn run_saved(tuples: &mut [u8], n: usize, body: &[u8], guard: (Operation, usize), i: usize) -> Done
-    requires { Section tuples.old n × GuardRead body.now guard × Finds (tuples_of tuples.old n) (operation_is guard.0) i }
-    ensures { Whole (perform_all (branch_of body.now guard) unbound (tuples_of tuples.old n)) (tuples_of tuples.old n) result.outcome result.n result.vars tuples.new }
+fn run_saved(tuples: &mut [u8], n: usize, body: &[u8], guard: &(Operation, usize), i: usize) -> Done
+    requires { Section tuples.old n × GuardRead body.now guard.now × Finds (tuples_of tuples.old n) (operation_is guard.now.0) i }
+    ensures { Whole (perform_all (branch_of body.now guard.now) unbound (tuples_of tuples.old n)) (tuples_of tuples.old n) result.outcome result.n result.vars tuples.new }
 {
     let mut saved = [0u8; words::TUPLES];
     tuples::copy_rows(&mut saved, 0, tuples, 0, n);
@@ -146,9 +152,9 @@ fn run_saved(tuples: &mut [u8], n: usize, body: &[u8], guard: (Operation, usize)
 }
 
 // Rule 5: the branch runs in place; the tuples are saved only where it can fail.
-fn run_whole(tuples: &mut [u8], n: usize, body: &[u8], guard: (Operation, usize), i: usize) -> Done
-    requires { Section tuples.old n × GuardRead body.now guard × Finds (tuples_of tuples.old n) (operation_is guard.0) i }
-    ensures { Whole (perform_all (branch_of body.now guard) unbound (tuples_of tuples.old n)) (tuples_of tuples.old n) result.outcome result.n result.vars tuples.new }
+fn run_whole(tuples: &mut [u8], n: usize, body: &[u8], guard: &(Operation, usize), i: usize) -> Done
+    requires { Section tuples.old n × GuardRead body.now guard.now × Finds (tuples_of tuples.old n) (operation_is guard.now.0) i }
+    ensures { Whole (perform_all (branch_of body.now guard.now) unbound (tuples_of tuples.old n)) (tuples_of tuples.old n) result.outcome result.n result.vars tuples.new }
 {
     let end = guard.1;
     let room = operations::room_after(guard.0.code, n);
@@ -173,7 +179,7 @@ pub fn execute(tuples: &mut [u8], n: usize, body: &[u8], choice: Choice) -> Ran
     ensures { Attempted (attempt (tuples_of tuples.old n) (statement_of body.now)) (tuples_of tuples.old n) result.branch result.outcome result.n result.vars tuples.new }
 {
     let guard = standing_operation(body, choice.at);
-    let d = run_whole(tuples, n, body, guard, choice.tuple);
+    let d = run_whole(tuples, n, body, &guard, choice.tuple);
     Ran {
         branch: choice.branch,
         outcome: d.outcome,

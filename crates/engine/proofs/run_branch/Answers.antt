@@ -26,16 +26,16 @@ module _ (c : After-perform_guard-d) where
   bytes = c.args.body.now
 
   abbrev from : ℕ
-  from = c.args.guard.1 + count_width
+  from = c.args.guard.now.1 + count_width
 
   abbrev count : ℕ
-  count = get_or bytes c.args.guard.1 0
+  count = get_or bytes c.args.guard.now.1 0
 
   goes : (Ahead bytes from count (bindings_of c.perform_guard-d.result.vars))
-      × (perform_all (branch_of bytes c.args.guard) unbound (tuples_of c.args.tuples.now c.args.n) ≡ perform_all (body_of bytes c.args.guard) (bindings_of c.perform_guard-d.result.vars) (tuples_of c.perform_guard-d.new.tuples c.perform_guard-d.result.n))
+      × (perform_all (branch_of bytes c.args.guard.now) unbound (tuples_of c.args.tuples.now c.args.n) ≡ perform_all (body_of bytes c.args.guard.now) (bindings_of c.perform_guard-d.result.vars) (tuples_of c.perform_guard-d.new.tuples c.perform_guard-d.result.n))
   goes =
       let d = c.perform_guard-d in
-      due_done bytes (operation_is c.args.guard.0) from count unbound c.requires.1.due (tuples_of c.args.tuples.now c.args.n) d.result.n d.result.vars _ d.result.outcome d.ensures.0 d.ensures.1 c.requires.0.lawful
+      due_done bytes (operation_is c.args.guard.now.0) from count unbound c.requires.1.due (tuples_of c.args.tuples.now c.args.n) d.result.n d.result.vars _ d.result.outcome d.ensures.0 d.ensures.1 c.requires.0.lawful
 
 pub run_operations-requires : goal.run_operations-requires
 run_operations-requires c =
@@ -45,11 +45,11 @@ pub returns : goal.returns
 returns c =
     let d = c.perform_guard-d in
     let r = c.run_operations.new.d in
-    let body = body_of (bytes (goal.at.returns c).After-perform_guard-d) c.args.guard in
+    let body = body_of (bytes (goal.at.returns c).After-perform_guard-d) c.args.guard.now in
     let bs = bindings_of d.result.vars in
     let ts = tuples_of d.new.tuples d.result.n in
     let ran : Leaves (perform_all body bs ts) r.outcome r.n r.vars c.run_operations.new.tuples =
     leaves_as _ _ r.outcome r.n r.vars _ (ap (λ (k : ℕ). perform_all (operations_at (bytes (goal.at.returns c).After-perform_guard-d) (from (goal.at.returns c).After-perform_guard-d) k) bs ts) c.size.ensures.0) c.run_operations.ensures in (
       leaves_as _ _ r.outcome r.n r.vars _ (sym (goes (goal.at.returns c).After-perform_guard-d).1) ran,
-      λ h. unfailing (room_after c.args.guard.0.code c.args.n) body bs ts r.outcome r.n r.vars _ (omega (arith, items_length tuple_shape d.new.tuples d.result.n, d.ensures.2)) ran h,
+      λ h. unfailing (room_after c.args.guard.now.0.code c.args.n) body bs ts r.outcome r.n r.vars _ (omega (arith, items_length tuple_shape d.new.tuples d.result.n, d.ensures.2)) ran h,
     )

@@ -15,7 +15,7 @@ module _ (c : After-size) where
   bytes = c.args.body.now
 
   abbrev from : ℕ
-  from = c.args.guard.1 + count_width
+  from = c.args.guard.now.1 + count_width
 
 pub cannot_fail-requires : goal.cannot_fail-requires
 cannot_fail-requires c = subst (Operations (bytes c) (from c)) (sym c.size.ensures.0) c.requires.1.due.stands
@@ -25,7 +25,7 @@ returns-then-cannot_fail c =
     let a = c.args in
     let r = c.run_branch.result in
     let safe =
-    subst (λ (k : ℕ). CannotFail k (body_of (bytes (goal.at.returns-then-cannot_fail c).After-size) a.guard)) c.room_after-room.ensures
+    subst (λ (k : ℕ). CannotFail k (body_of (bytes (goal.at.returns-then-cannot_fail c).After-size) a.guard.now)) c.room_after-room.ensures
     (subst (λ (k : ℕ). CannotFail c.room_after-room.result (operations_at (bytes (goal.at.returns-then-cannot_fail c).After-size) (from (goal.at.returns-then-cannot_fail c).After-size) k)) c.size.ensures.0 (c.cannot_fail.ensures c.if-cannot_fail.true)) in
     whole_done _ (tuples_of a.tuples.now a.n) r.outcome r.n r.vars _ c.run_branch.ensures.0 (c.run_branch.ensures.1 safe)
 
