@@ -1,6 +1,6 @@
 -- What the search for a match meets on its way: the conditions field by field, the search tuple by tuple. Assumes nothing.
 use Rattle.std.specs.Prelude as code
-use Rattle.std.specs.Prelude.{None, Some, Ok, Err, is_ok, IfSome}
+use Rattle.std.specs.Prelude.{None, Some, Ok, Err, is_ok}
 use Rattle.std.specs.Prelude.{◌≡◌, Bool, true, false, ◌&&◌, List, ◌∷◌, length, drop, get_or, eqb}
 use Rattle.std.proofs.Math.Path.{refl, sym}
 use Rattle.std.proofs.Common.{ap, subst, ◌∙◌, drop_of_length-le}
@@ -160,20 +160,6 @@ value_differs t p i f few h e = by (eqb c t.count) refl
     by : (b : Bool) → eqb c t.count ≡ b → is_match (template_is t) (tuple_at p i) ≡ false
     by true q = kinds (eqb-true c t.count q) (pairs_from same_kind t p i t.count 0) refl
     by false q = told_none t (tuple_at p i) (mismatch_is (Err Count)) (count_told t p i c refl (eqb-false c t.count q)) refl
-
--- a template asks for this value alone in field f
-abbrev pub AsksOne : Template → ℕ → ℕ → Type 0
-AsksOne t f v = (f < t.count) × (get_or t.given f false ≡ true) × (get_or t.lowest f 0 ≡ v) × (get_or t.lowest f 0 ≡ get_or t.highest f 0)
-
--- each value of a list, which may have none, is asked for alone in its field
-abbrev pub AreAsked : Template → List (code.Option ℕ) → Type 0
-AreAsked t vs = (f : ℕ) → IfSome (get_or vs f None) (AsksOne t f)
-
--- the value of field f is another than the one that is asked for
-pub asked_differs : (t : Template) (p : List ℕ) (i : ℕ) (vs : List (code.Option ℕ)) (f v : ℕ) → t.count ≤ most_fields → AreAsked t vs → get_or vs f None ≡ Some v → ((value_in p i f).bits ≡ v → ⊥) → is_match (template_is t) (tuple_at p i) ≡ false
-asked_differs t p i vs f v few all at d =
-    let one : AsksOne t f v = subst (λ r. IfSome r (AsksOne t f)) at (all f) in
-    value_differs t p i f few one.0 (value_other t f (value_in p i f) (value_in p i f).bits refl one.1 one.3 (λ e. d (e ∙ one.2)))
 
 -- ---- a match
 

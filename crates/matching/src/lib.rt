@@ -8,7 +8,6 @@ ghost use Rattle.model.specs.Matching.{first_mismatch, is_match};
 ghost use Rattle.tuples.specs.Section.{tuple_at, tuples_of};
 ghost use Rattle.sections.specs.Rows.{HasRows};
 ghost use Rattle.matching.specs.Meaning.{template_is, mismatch_is, found_is};
-ghost use Rattle.matching.specs.SearchLaws.{AreAsked};
 
 // What a template asks for: the space, and of each of `count` fields the kind and, where one is given, the range of values; that of one value has its
 // bits twice.
@@ -72,8 +71,8 @@ pub fn first_mismatch(tuples: &[u8], i: usize, template: Template) -> Result<(),
     Ok(())
 }
 
-// A quick test before the conditions: no match where the space or a value that is given exactly differs. (It is written into each search by
-// `is_match`, and the conditions are called for what it lets through.)
+// A quick test before the conditions: no match where the space or a value that is given exactly differs. (It is written into each search, and the
+// conditions are called for what it lets through.)
 fn may_match(tuples: &[u8], i: usize, template: Template) -> bool
     requires { HasRows tuple_size tuples.now (i + 1) × (template.count ≤ most_fields) }
     ensures { result ≡ false → is_match (template_is template) (tuple_at tuples.now i) ≡ false }
@@ -117,57 +116,13 @@ pub fn is_match(tuples: &[u8], i: usize, template: Template) -> bool
     may_match(tuples, i, template) && agrees(tuples, i, template)
 }
 
-// Of each field the value that a template asks for, where it asks for one alone.
-fn single_values(template: Template) -> [Option<u32>; words::MOST_FIELDS]
-    ensures { AreAsked template result }
-{
-    let mut asked = [None; words::MOST_FIELDS];
-    'fields: for s in 0..words::MOST_FIELDS {
-        if s == template.count {
-            break 'fields;
-        }
-        if template.given[s] {
-            let lowest = template.lowest[s];
-            if lowest == template.highest[s] {
-                asked[s] = Some(lowest);
-            }
-        }
-    }
-    asked
-}
-
-// The test of `may_match` by single values that were read off the template before: `find` does that once for all tuples.
-fn is_candidate(
-    tuples: &[u8],
-    i: usize,
-    template: Template,
-    asked: &[Option<u32>; words::MOST_FIELDS],
-) -> bool
-    requires { HasRows tuple_size tuples.now (i + 1) × (template.count ≤ most_fields) × AreAsked template asked.now }
-    ensures { result ≡ false → is_match (template_is template) (tuple_at tuples.now i) ≡ false }
-{
-    let here = tuples::space(tuples, i);
-    if here != template.space {
-        return false;
-    }
-    for v in 0..words::MOST_FIELDS {
-        if let Some(value) = asked[v] {
-            if tuples::bits(tuples, i, v) != value {
-                return false;
-            }
-        }
-    }
-    true
-}
-
 // "the oldest match": the first of n tuples that the template matches.
 pub fn find(tuples: &[u8], n: usize, template: Template) -> Option<usize>
     requires { (length tuples.now ≡ tuples_size) × (n ≤ most_tuples) × (template.count ≤ most_fields) }
     ensures { found_is tuples.now result ≡ first (is_match (template_is template)) (tuples_of tuples.now n) }
 {
-    let asked = single_values(template);
     for i in 0..n {
-        if is_candidate(tuples, i, template, &asked) && agrees(tuples, i, template) {
+        if may_match(tuples, i, template) && agrees(tuples, i, template) {
             return Some(i);
         }
     }

@@ -29,7 +29,7 @@ Copies None p q n new = (most_tuples < n + length new) × (q ≡ p)
 
 -- how many of the others are held at once
 abbrev pub most_held : ℕ
-most_held = 64
+most_held = 61
 
 -- the section p is a by now, and its first i tuples are the others os and the moved ones rs: m others stand in place, behind them the k moved ones,
 -- and the rest of the others is held in b. From index i on nothing has changed; nor before it, where none was moved

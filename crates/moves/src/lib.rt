@@ -14,7 +14,7 @@ ghost use Rattle.moves.specs.Moves.{relocated, Copies, most_held, Keeps};
 use matching::Template;
 
 // How many tuples that are not selected a move holds at once.
-const HELD: usize = 64;
+const HELD: usize = 61;
 
 // Whether move and copy take the tuple at index i: "0 fields match every tuple of the space".
 fn selected(tuples: &[u8], i: usize, template: Template) -> bool
